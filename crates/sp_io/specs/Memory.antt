@@ -1,5 +1,5 @@
 -- Sources and sinks in memory.
-use Rattle.std.specs.Prelude.{◌≡◌, ◌≤◌, ℕ, List, drop, length, Option, Some}
+use Rattle.std.specs.Prelude.{ℕ, List, drop}
 use Rattle.sp_io.specs.declared.memory.MemSource.{MemSource}
 use Rattle.sp_io.specs.declared.memory.MemSink.{MemSink}
 

@@ -1,23 +1,19 @@
 -- What a whole run says, by how it ended.
-use Rattle.std.proofs.Common.{rules, ◌≡◌, ℕ, ◌<◌, ◌≤◌, ◌^◌, Bool, true, false, cond, not, List, [], ◌∷◌, ◌++◌, map, length, Option, Some, None, Result, refl, sym, ap, ◌∙◌, subst, arith}
+use Rattle.std.proofs.Common.{◌≡◌, ℕ, ◌≤◌, Bool, true, false, cond, not, List, [], ◌∷◌, ◌++◌, map, length, Option, None, refl, sym, ap, ◌∙◌, subst, arith}
 use Rattle.std.specs.Io.KnownBytes.{Appends}
-use Rattle.sp_rect.specs.Serial.{Serial}
 use Rattle.sp_text.specs.Grammar.{said}
 use Rattle.sp_text.specs.Lines.{lines, is_blank}
 use Rattle.sp_text.specs.Texts.{render}
-use Rattle.sp_text.specs.Transcripts.{heard, committed}
-use Rattle.sp_text.specs.declared.types.Said.{Said}
-use Rattle.sp_text.specs.declared.types.Bad.{Bad}
+use Rattle.sp_text.specs.Transcripts.{heard}
 use Rattle.sp_text.specs.declared.types.Item.{Item}
 use Rattle.sp_text.specs.declared.types.End.{End}
 use Rattle.sp_text.specs.declared.types.End.TheVariants.{Input, Usage, ReadFault, WriteFault, Memory as OutOfMemory, Long}
 use Rattle.sp_play.specs.declared.fault.Fault.{Fault}
 use Rattle.sp_play.specs.declared.fault.Fault.TheVariants.{Write, Memory}
 use Rattle.sp_play.specs.Session.{State, Plays, start}
-use Rattle.sp_play.specs.Hearing.{Goes, Stops, GoesThrough, GoesSoFar, StopsWithin, RunsTo, answered, cut_after, cut_whole}
-use Rattle.sp_play.specs.Script.{ReadsWhole, ReadsPart, ReadsTo, WritesTo, PlaysTo}
+use Rattle.sp_play.specs.Hearing.{GoesSoFar, StopsWithin, RunsTo, answered, cut_after}
+use Rattle.sp_play.specs.Script.{ReadsPart, ReadsTo, WritesTo, PlaysTo}
 use Rattle.sp_play.proofs.Goes.{answered-append}
-use Rattle.sp_play.proofs.Serial.{serial_from_plays}
 use Rattle.sp_play.proofs.Whole.{heard_whole}
 
 -- a run from the start

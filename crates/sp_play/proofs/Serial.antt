@@ -1,5 +1,5 @@
 -- The transactions that a session commits are serial.
-use Rattle.std.proofs.Common.{rules, ◌≡◌, ℕ, ◌+◌, ◌<◌, ◌≤◌, Bool, true, false, not, cond, eqb, List, [], ◌∷◌, ◌++◌, map, fold, filter, length, length-append, Option, Some, None, refl, sym, ap, ◌∙◌, subst, arith}
+use Rattle.std.proofs.Common.{◌≡◌, ℕ, ◌+◌, ◌<◌, ◌≤◌, not, cond, eqb, List, [], ◌∷◌, ◌++◌, map, fold, length, length-append, Option, Some, None, refl, sym, ap, ◌∙◌, subst, arith}
 use Rattle.sp_rect.specs.Store.{replied, after}
 use Rattle.sp_rect.specs.Serial.{records_after, RepliesAsPlain, after_all, SerialFrom, Serial}
 use Rattle.sp_rect.specs.declared.operation.Answered.{Answered}

@@ -1,23 +1,22 @@
 -- A script that stops at a fault.
-use Rattle.std.proofs.Common.{rules, ◌≡◌, ℕ, Bool, true, false, cond, List, [], ◌∷◌, ◌++◌, map, Option, Some, None, Result, Ok, Err, refl, sym, ap, ◌∙◌, subst, append_assoc}
+use Rattle.std.proofs.Common.{rules, ◌≡◌, ℕ, true, false, List, [], ◌∷◌, ◌++◌, map, Option, None, Result, Ok, Err, refl, sym, ap, ◌∙◌, subst, append_assoc}
 use Rattle.std.specs.Prelude.{IfErr, OnOk, IsErrOf}
 use Rattle.std.proofs.lemmas.List.Concat.{flat_map-append}
 use Rattle.std.specs.Io.KnownBytes.{Appends}
 use Rattle.sp_io.specs.Streams.{AppendsFront}
-use Rattle.sp_io.proofs.Known.{Appends-more, Appends-none}
+use Rattle.sp_io.proofs.Known.{Appends-more}
 use Rattle.sp_text.specs.Grammar.{said}
 use Rattle.sp_text.specs.Lines.{is_blank}
 use Rattle.sp_text.specs.Texts.{render, item_text}
 use Rattle.sp_text.specs.Transcripts.{heard}
 use Rattle.sp_text.specs.declared.types.Bad.{Bad as Reason}
 use Rattle.sp_text.specs.declared.types.Command.{Command}
-use Rattle.sp_text.specs.declared.types.Answer.{Answer}
 use Rattle.sp_text.specs.declared.types.Said.{Said}
 use Rattle.sp_text.specs.declared.types.Item.{Item}
-use Rattle.sp_text.specs.declared.types.Item.TheVariants.{Bad, Told}
+use Rattle.sp_text.specs.declared.types.Item.TheVariants.{Bad}
 use Rattle.sp_play.specs.declared.fault.Fault.{Fault}
 use Rattle.sp_play.specs.declared.fault.Fault.TheVariants.{Write, Memory}
-use Rattle.sp_play.specs.Session.{State, Plays, step, told}
+use Rattle.sp_play.specs.Session.{State, step, told}
 use Rattle.sp_play.specs.Hearing.{Goes, Stops, WrittenAt, KeptAt, answered}
 use Rattle.sp_play.proofs.Goes.{heard-append, Plays-append, answered-append, one_answered, render_one}
 

@@ -1,7 +1,7 @@
 -- A script as it is heard byte by byte.
-use Rattle.std.specs.Prelude.{◌≡◌, ◌≤◌, ◌<◌, ◌^◌, ℕ, Bool, not, ◌==◌, List, [], ◌∷◌, ◌++◌, map, filter, fold, nat_lt, length, Option, if◌then◌else◌}
+use Rattle.std.specs.Prelude.{◌≡◌, ◌≤◌, ◌<◌, ◌^◌, ℕ, not, ◌==◌, List, [], ◌∷◌, ◌++◌, map, filter, fold, nat_lt, length, Option, if◌then◌else◌}
 use Rattle.std.specs.Str.Lines.{strip_carriage_return}
-use Rattle.std.specs.Io.KnownBytes.{Keeps, Appends, Consumes, IsAtEnd}
+use Rattle.std.specs.Io.KnownBytes.{Appends, Consumes, IsAtEnd}
 use Rattle.sp_io.specs.Streams.{AppendsFront}
 use Rattle.sp_text.specs.Grammar.{said}
 use Rattle.sp_text.specs.Lines.{is_blank}

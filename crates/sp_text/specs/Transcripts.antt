@@ -1,13 +1,13 @@
 -- What a transcript says of the input, and of the transactions that were committed.
-use Rattle.std.specs.Prelude.{ℕ, Bool, true, false, not, ◌==◌, List, [], ◌∷◌, ◌++◌, map, filter, filter_map, fold, Result, Ok, Err, Option, Some, None, if◌then◌else◌}
+use Rattle.std.specs.Prelude.{ℕ, true, false, not, ◌==◌, List, [], ◌∷◌, ◌++◌, map, filter, fold, Result, Ok, Err}
 use Rattle.sp_rect.specs.declared.operation.Answered.{Answered}
 use Rattle.sp_rect.specs.declared.commit.Commit.{Commit}
 use Rattle.sp_text.specs.declared.types.Command.{Command}
-use Rattle.sp_text.specs.declared.types.Command.TheVariants.{Begin, Do, Commit as CommitIt, Rollback}
+use Rattle.sp_text.specs.declared.types.Command.TheVariants.{Do}
 use Rattle.sp_text.specs.declared.types.Said.{Said}
 use Rattle.sp_text.specs.declared.types.Bad.{Bad as Reason}
 use Rattle.sp_text.specs.declared.types.Answer.{Answer}
-use Rattle.sp_text.specs.declared.types.Answer.TheVariants.{Began, Reply as Replied, Committed, RolledBack, Refused}
+use Rattle.sp_text.specs.declared.types.Answer.TheVariants.{Began, Reply as Replied, Committed, RolledBack}
 use Rattle.sp_text.specs.declared.types.Item.{Item}
 use Rattle.sp_text.specs.declared.types.Item.TheVariants.{Bad, Told}
 
