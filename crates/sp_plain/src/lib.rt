@@ -6,6 +6,7 @@ mod change;
 mod keep;
 mod operate;
 mod plain;
+mod undo;
 
 pub use change::{Change, Changes};
 pub use plain::Plain;
