@@ -10,3 +10,6 @@ mod undo;
 
 pub use change::{Change, Changes};
 pub use plain::Plain;
+
+#[cfg(test)]
+mod tests;
