@@ -1,0 +1,14 @@
+//! Disks that may stop at any moment: files as a journal sees them, in memory and on the system's
+//! disk.
+//!
+//! A [`Disk`] is one file behind five calls. Contracts see the bytes that a read gives, the files that
+//! a stop may leave now or might have left at an earlier moment, and how often the disk has failed.
+#![tactic(auto)]
+
+mod disk;
+mod history;
+mod memory;
+
+pub use disk::{Disk, DiskError};
+pub use history::DiskCall;
+pub use memory::MemDisk;
