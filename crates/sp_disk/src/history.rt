@@ -33,7 +33,7 @@ pub enum DiskCall {
 }
 
 /// The longest file: no vector is longer.
-const LONGEST: usize = (1 << 63) - 1;
+pub const LONGEST: usize = (1 << 63) - 1;
 
 /// The bytes that a file had first, those that it has now, and the calls between.
 #[derive(Drop)]
@@ -67,6 +67,13 @@ impl CallLog {
             bytes,
             calls: Vec::new(alloc),
         })
+    }
+
+    /// The bytes that it had first.
+    pub fn start(&self) -> &[u8]
+        ensures { result.now ≡ self.now.start }
+    {
+        self.start.as_slice()
     }
 
     /// The bytes that it has now.

@@ -8,7 +8,9 @@
 mod disk;
 mod history;
 mod memory;
+mod samples;
 
 pub use disk::{Disk, DiskError};
 pub use history::DiskCall;
-pub use memory::MemDisk;
+pub use memory::{HonestDisk, MemDisk};
+pub use samples::Images;
