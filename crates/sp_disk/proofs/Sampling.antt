@@ -1,11 +1,12 @@
 -- Lists of files as sets of files.
-use Rattle.std.proofs.Common.{◌≡◌, ◌⊎◌, inl, inr, ℕ, ◌+◌, ◌<◌, ◌↔◌, min, true, false, List, [], ◌∷◌, ◌++◌, length, take, get_or, refl, sym, ◌∙◌, ap, subst, arith}
+use Rattle.std.proofs.Common.{◌≡◌, ◌⊎◌, inl, inr, ℕ, ◌+◌, ◌-◌, ◌<◌, ◌≤◌, ◌↔◌, min, true, false, List, [], ◌∷◌, ◌++◌, length, take, drop, length-take, get_or, refl, sym, ◌∙◌, ap, subst, arith}
 use Rattle.std.specs.List.{flat_map}
-use Rattle.std.proofs.lemmas.List.{take_more, take_min, append-nil, append_assoc}
+use Rattle.std.proofs.lemmas.List.{take_more, take_min, drop-drop, append-nil, append_assoc}
 use Rattle.sp_disk.specs.declared.history.DiskCall.{DiskCall}
 use Rattle.sp_disk.specs.declared.history.DiskCall.TheVariants.{Look, Write, Cut, Sync}
-use Rattle.sp_disk.specs.Files.{put}
-use Rattle.sp_disk.specs.History.{done, reads_after, left, is_sampled}
+use Rattle.sp_disk.specs.Files.{put, Torn, Shortened}
+use Rattle.sp_disk.specs.History.{History, done, reads_after, left, may_tear, is_sampled, images_of, samples_of}
+use Rattle.sp_disk.specs.Laws.{length-put, before_put, behind_put, torn_put, torn_same, shortened_take, shortened_same}
 use Rattle.sp_disk.specs.Membership.{In}
 use Rattle.sp_disk.proofs.Logs.{reads_push}
 
@@ -136,3 +137,36 @@ same_samples start begun calls kept part moment files begun_is kept_is part_is s
 
 pub front_part : {X : Type 0} (xs : List X) (count moment : ℕ) → count ≡ min (length xs) moment → take count xs ≡ take moment xs
 front_part xs count moment is = let same : count ≡ min moment (length xs) = omega (arith, is) in ap (λ (n : ℕ). take n xs) same ∙ take_min moment xs
+
+-- a write that is cut short anywhere
+torn_part : (file : List ℕ) (at n : ℕ) (part : List ℕ) → length part ≤ n → Torn at n file (put file at part)
+torn_part file at n part short =
+    let m : ℕ = length part in
+    let sum : at + m + (n - m) ≡ at + n = omega (arith, short) in
+    let past : (l : List ℕ) → drop (at + n) l ≡ drop (n - m) (drop (at + m) l) = λ l. ap (λ (k : ℕ). drop k l) (sym sum) ∙ sym (drop-drop (n - m) (at + m) l) in
+    record {
+      before = before_put file at part;
+      behind = past (put file at part) ∙ ap (λ (l : List ℕ). drop (n - m) l) (behind_put file at part) ∙ sym (past file);
+      no_shorter = omega (arith, length-put file at part);
+      no_longer = omega (arith, length-put file at part, short);
+    }
+
+sampled_torn : (call : DiskCall) (reads : List ℕ) (before other : List ℕ → Type 0) → ((f : List ℕ) → before f → other f) → (file : List ℕ) → is_sampled call reads before file → may_tear call reads other file
+sampled_torn (Look made) reads before other to file is = to file is
+sampled_torn (Write at bytes made) reads before other to file (was, is, inl missing) = (was, to was is, subst (λ f. Torn at (length bytes) was f) (sym missing) (torn_same was at (length bytes)))
+sampled_torn (Write at bytes made) reads before other to file (was, is, inr (inl first)) =
+    (was, to was is, subst (λ f. Torn at (length bytes) was f) (sym first) (torn_part was at (length bytes) (take 1 bytes) (omega (arith, length-take 1 bytes))))
+sampled_torn (Write at bytes made) reads before other to file (was, is, inr (inr whole)) = (was, to was is, subst (λ f. Torn at (length bytes) was f) (sym whole) (torn_put was at bytes))
+sampled_torn (Cut len made) reads before other to file (was, is, inl missing) = (was, to was is, subst (λ f. Shortened len was f) (sym missing) (shortened_same was len))
+sampled_torn (Cut len made) reads before other to file (was, is, inr done_is) = (was, to was is, subst (λ f. Shortened len was f) (sym done_is) (shortened_take was len))
+sampled_torn (Sync true) reads before other to file is = is
+sampled_torn (Sync false) reads before other to file is = to file is
+
+left_torn : (reads : List ℕ) (before other : List ℕ → Type 0) (calls : List DiskCall) → ((f : List ℕ) → before f → other f) → (file : List ℕ) → left is_sampled reads before calls file → left may_tear reads other calls file
+left_torn reads before other [] to file is = to file is
+left_torn reads before other (call ∷ calls) to file is =
+    left_torn (done call reads) (is_sampled call reads before) (may_tear call reads other) calls (sampled_torn call reads before other to) file is
+
+-- each sample is a file that a stop may leave
+pub sample_is_image : (h : History) (moment : ℕ) (file : List ℕ) → samples_of h moment file → images_of h moment file
+sample_is_image h moment file is = left_torn h.start (λ f. f ≡ h.start) (λ f. f ≡ h.start) (take moment h.calls) (λ f x. x) file is

@@ -4,3 +4,4 @@ pub mod History
 pub mod Laws
 pub mod Membership
 pub mod Moments
+pub mod Shelves

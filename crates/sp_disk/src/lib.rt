@@ -6,11 +6,17 @@
 #![tactic(auto)]
 
 mod disk;
+mod file;
 mod history;
 mod memory;
+mod memory_shelf;
 mod samples;
+mod shelf;
 
 pub use disk::{Disk, DiskError};
+pub use file::{FileDisk, FileShelf};
 pub use history::DiskCall;
 pub use memory::{HonestDisk, MemDisk};
+pub use memory_shelf::MemShelf;
 pub use samples::Images;
+pub use shelf::{Shelf, ShelfFault};

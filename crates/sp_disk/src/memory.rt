@@ -45,7 +45,8 @@ impl MemDisk {
     /// done or not; every such file is in the list, and none else. They are three for each write and
     /// two for each cut, so it costs the product of these.
     pub fn samples(&self, alloc: Global, moment: u64) -> Result<Images, AllocError>
-        ensures { IfOk result (λ files. (file : List ℕ) → In file files ↔ samples_of self.now.log moment file) }
+        ensures samples { IfOk result (λ files. (file : List ℕ) → In file files ↔ samples_of self.now.log moment file) }
+        ensures images { IfOk result (λ files. (file : List ℕ) → In file files → images_of self.now.log moment file) }
     {
         let calls = self.log.calls();
         let count = calls.len().min(moment as usize);
