@@ -1,3 +1,4 @@
+mod Holding
 mod Logs
 mod Sampling
 mod Steps

@@ -4,7 +4,7 @@ use Rattle.std.specs.Cmp.Lexicographic.{pointwise}
 use Rattle.std.specs.String.{string_bytes}
 use Rattle.std.specs.declared.alloc.Global.{Global}
 use Rattle.sp_disk.specs.declared.memory.MemDisk.{MemDisk}
-use Rattle.sp_disk.specs.History.{reads_of, failures}
+use Rattle.sp_disk.specs.History.{reads_of}
 
 -- disks with their names
 abbrev pub Named : Type 0
@@ -18,8 +18,3 @@ is_named name disk = pointwise nat_eq (string_bytes disk.0) name
 abbrev pub held : List Named → List ℕ → List ℕ
 held [] name = []
 held (disk ∷ disks) name = if is_named name disk then reads_of disk.1.log else held disks name
-
--- no disk has failed
-abbrev pub AllUnfailed : List Named → Type 0
-AllUnfailed [] = Unit {0}
-AllUnfailed (disk ∷ disks) = (failures disk.1.log.calls ≡ 0) × AllUnfailed disks
