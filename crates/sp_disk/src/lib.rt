@@ -12,6 +12,8 @@ mod memory;
 mod memory_shelf;
 mod samples;
 mod shelf;
+#[cfg(test)]
+mod tests;
 
 pub use disk::{Disk, DiskError};
 pub use file::{FileDisk, FileShelf};
