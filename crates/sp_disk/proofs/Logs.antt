@@ -1,11 +1,10 @@
 -- One call more in the log of a file in memory, and a write into a vector.
 use Rattle.std.proofs.Common.{◌≡◌, ◌≤◌, ℕ, zero, suc, ◌+◌, ◌-◌, Bool, true, false, List, [], ◌∷◌, ◌++◌, length, take, drop, refl, sym, ◌∙◌, ap, arith, length-append, length-take, length-drop, append_assoc}
 use Rattle.std.proofs.Math.ListN.{replicate}
-use Rattle.std.proofs.lemmas.List.{take-replicate, take_all, take_at, append-nil, drop-drop, drop-append-le, drop_all, length-replicate}
-use Rattle.std.proofs.lemmas.Bool.{cases_eq}
+use Rattle.std.proofs.lemmas.List.{take-replicate, take_at, append-nil, drop-drop, drop_all, length-replicate}
 use borrow.Rule.Slice.PartMut.{put_mid, same_len_mid, mid_of, post_of}
 use Rattle.sp_disk.specs.declared.history.DiskCall.{DiskCall}
-use Rattle.sp_disk.specs.declared.history.DiskCall.TheVariants.{Look, Write, Cut, Sync}
+use Rattle.sp_disk.specs.declared.history.DiskCall.TheVariants.{Write, Cut}
 use Rattle.sp_disk.specs.Files.{put}
 use Rattle.sp_disk.specs.History.{done, reads_after}
 

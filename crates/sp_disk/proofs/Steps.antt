@@ -1,15 +1,14 @@
 -- What one call more of a disk in memory does to what a stop may leave.
-use Rattle.std.proofs.Common.{◌≡◌, ◌⊎◌, inl, inr, ℕ, ◌+◌, ◌<◌, ◌≤◌, ◌↔◌, Bool, true, false, List, [], ◌∷◌, ◌++◌, length, take, drop, Result, OnOk, OnErr, IsErrOf, Ok, Err, refl, sym, ◌∙◌, ap, subst, arith, if◌then◌else◌, length-append}
-use Rattle.std.proofs.lemmas.List.{take_all, take-append-le}
+use Rattle.std.proofs.Common.{◌≡◌, ◌⊎◌, inl, inr, ℕ, ◌+◌, ◌↔◌, Bool, true, false, List, [], ◌∷◌, ◌++◌, length, take, Result, OnOk, OnErr, IsErrOf, Ok, Err, refl, sym, ◌∙◌, ap, subst, arith, if◌then◌else◌}
+use Rattle.std.proofs.lemmas.List.{take_all}
 use Rattle.std.proofs.lemmas.Int.{clamps}
 use Rattle.sp_disk.specs.declared.history.DiskCall.{DiskCall}
 use Rattle.sp_disk.specs.declared.history.DiskCall.TheVariants.{Look, Write, Cut, Sync}
 use Rattle.sp_disk.specs.History.{History, add, done, reads_after, reads_of, may_tear, left, images_of, failures, is_made}
-use Rattle.sp_disk.specs.Moments.{Passes}
 use Rattle.sp_disk.specs.declared.disk.DiskError.{DiskError}
 use Rattle.sp_disk.specs.declared.disk.DiskError.TheVariants.{Fault}
 use Rattle.sp_disk.specs.Files.{put, Torn, Shortened}
-use Rattle.sp_disk.specs.Faults.{Rose, HasCause}
+use Rattle.sp_disk.specs.Faults.{HasCause}
 use Rattle.sp_disk.specs.Laws.{reads_now}
 use Rattle.sp_disk.proofs.Logs.{reads_push}
 

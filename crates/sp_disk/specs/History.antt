@@ -1,5 +1,5 @@
 -- A disk in memory, as the bytes that it had first and the calls that were made on it since.
-use Rattle.std.specs.Prelude.{◌≡◌, ◌⊎◌, ℕ, suc, ◌≤◌, Bool, true, false, if◌then◌else◌, List, [], ◌∷◌, ◌++◌, length, take}
+use Rattle.std.specs.Prelude.{◌≡◌, ◌⊎◌, ℕ, suc, Bool, true, false, if◌then◌else◌, List, [], ◌∷◌, ◌++◌, length, take}
 use Rattle.sp_disk.specs.declared.history.DiskCall.{DiskCall}
 use Rattle.sp_disk.specs.declared.history.DiskCall.TheVariants.{Look, Write, Cut, Sync}
 use Rattle.sp_disk.specs.Files.{put, Torn, Shortened}

@@ -1,8 +1,8 @@
 -- A disk in memory as it reads is one of the files that a stop may leave.
-use Rattle.std.specs.Prelude.{◌≡◌, ◌≤◌, ℕ, ◌+◌, min, max, Bool, true, false, List, [], ◌∷◌, ◌++◌, length, take, drop}
+use Rattle.std.specs.Prelude.{◌≡◌, ℕ, ◌+◌, min, max, true, false, List, [], ◌∷◌, ◌++◌, length, take, drop}
 use Rattle.std.proofs.Common.{refl, sym, ◌∙◌, ap, subst, arith, length-append}
 use Rattle.std.proofs.Math.ListN.{replicate}
-use Rattle.std.proofs.lemmas.List.{take_all, take_min, take_at, take-take, drop_at, drop-drop, take-append-le, length-take, length-take-le, length-drop, length-replicate}
+use Rattle.std.proofs.lemmas.List.{take_all, take_min, take-take, drop_at, take-append-le, length-take, length-take-le, length-drop, length-replicate}
 use Rattle.sp_disk.specs.declared.history.DiskCall.{DiskCall}
 use Rattle.sp_disk.specs.declared.history.DiskCall.TheVariants.{Look, Write, Cut, Sync}
 use Rattle.sp_disk.specs.Files.{put, Torn, Shortened}

@@ -1,8 +1,6 @@
 // A shelf in memory.
-ghost use Rattle.std.specs.Prelude.{◌≡◌, ◌<◌, ◌≤◌, ℕ, true, false, [], map, length, slice_index_or, nat_eq, IfOk, IfSome, IfNone};
-ghost use Rattle.std.specs.Cmp.Lexicographic.{pointwise};
-ghost use Rattle.std.specs.List.{All, IsDistinct};
-ghost use Rattle.std.specs.String.{string_bytes};
+ghost use Rattle.std.specs.Prelude.{◌≡◌, ◌<◌, ◌≤◌, ℕ, true, false, [], length, slice_index_or, IfOk, IfSome, IfNone};
+ghost use Rattle.std.specs.List.{All};
 ghost use Rattle.sp_disk.specs.History.{failures};
 ghost use Rattle.sp_disk.specs.Shelves.{Named, is_named};
 
@@ -22,15 +20,14 @@ pub struct MemShelf {
 }
 
 impl MemShelf {
-    /// A shelf that holds these disks, of which none has failed. Its calls of these numbers fail,
-    /// counted from 1.
+    /// A shelf that holds these disks, of which none has failed. Of two with one name the first is the
+    /// one that it holds under it. Its calls of these numbers fail, counted from 1.
     pub fn new(
         alloc: Global,
         disks: Vec<(String, MemDisk)>,
         fail: Vec<u64>,
     ) -> Result<MemShelf, AllocError>
-        requires distinct { IsDistinct (pointwise nat_eq) (map (λ disk. string_bytes disk.0) disks.items) }
-        requires unfailed { All (λ disk. failures disk.1.log.calls ≡ 0) disks.items }
+        requires { All (λ disk. failures disk.1.log.calls ≡ 0) disks.items }
         ensures { IfOk result (λ shelf. (shelf.disks.items ≡ disks.items) × (shelf.asked ≡ []) × (shelf.faults ≡ 0)) }
     {
         Ok(MemShelf {

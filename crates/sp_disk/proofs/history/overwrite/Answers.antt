@@ -1,4 +1,4 @@
-use Rattle.std.proofs.Common.{◌≡◌, ap, sym, ◌∙◌, length, rules}
+use Rattle.std.proofs.Common.{rules}
 use Rattle.sp_disk.proofs.Logs.{overwritten}
 use Rattle.sp_disk.proofs.history.overwrite.Goals as goal
 

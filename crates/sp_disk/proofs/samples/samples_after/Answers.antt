@@ -1,4 +1,4 @@
-use Rattle.std.proofs.Common.{◌≡◌, ◌↔◌, ℕ, List, take, sym, subst, arith}
+use Rattle.std.proofs.Common.{◌≡◌, ◌↔◌, List, subst, arith}
 use Rattle.std.proofs.lemmas.List.{take_all}
 use Rattle.sp_disk.specs.declared.history.DiskCall.{DiskCall}
 use Rattle.sp_disk.specs.History.{left, is_sampled}

@@ -1,4 +1,3 @@
-use Rattle.std.proofs.Common.{refl}
 use Rattle.sp_disk.specs.declared.history.DiskCall.TheVariants.{Cut}
 use Rattle.sp_disk.proofs.Logs.{logged, cut_done, cut_not_done}
 use Rattle.sp_disk.proofs.history.CallLog.cut.Goals as goal

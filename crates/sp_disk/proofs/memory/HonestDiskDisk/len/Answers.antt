@@ -1,4 +1,4 @@
-use Rattle.std.proofs.Common.{true, refl, ◌∙◌, ap, length, ℕ, List, min, ◌-◌, ◌++◌, take, drop}
+use Rattle.std.proofs.Common.{true, ◌∙◌, ap, length, ℕ, List}
 use Rattle.sp_disk.specs.declared.history.DiskCall.TheVariants.{Look}
 use Rattle.sp_disk.proofs.Steps.{reads_are, look_now}
 use Rattle.sp_disk.proofs.memory.HonestDiskDisk.len.Goals as goal

@@ -1,4 +1,4 @@
-use Rattle.std.proofs.Common.{◌≡◌, refl, sym, ◌∙◌, ap, length, ℕ, List, min, ◌-◌, ◌++◌, take, drop}
+use Rattle.std.proofs.Common.{refl, ◌∙◌, ap, length, ℕ, List, min, ◌-◌, ◌++◌, take, drop}
 use Rattle.sp_disk.specs.declared.disk.DiskError.TheVariants.{Fault}
 use Rattle.sp_disk.specs.declared.history.DiskCall.TheVariants.{Look}
 use Rattle.sp_disk.proofs.Steps.{reads_are, look_now, caused, failed_answer, not_failed}

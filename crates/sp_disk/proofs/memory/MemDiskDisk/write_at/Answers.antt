@@ -1,5 +1,4 @@
 use Rattle.std.proofs.Common.{refl}
-use Rattle.sp_disk.specs.declared.history.DiskCall.TheVariants.{Write}
 use Rattle.sp_disk.proofs.Steps.{write_now, written_now, on_ok, caused}
 use Rattle.sp_disk.proofs.memory.MemDiskDisk.write_at.Goals as goal
 

@@ -1,5 +1,5 @@
 use Rattle.std.proofs.Common.{refl, ◌∙◌, ap}
-use Rattle.sp_disk.specs.History.{History, reads_of}
+use Rattle.sp_disk.specs.History.{reads_of}
 use Rattle.sp_disk.proofs.Holding.{held_first, held_others, held_none}
 use Rattle.sp_disk.proofs.memory_shelf.MemShelfShelf.fetch.Goals as goal
 
