@@ -5,7 +5,7 @@ use Rattle.std.specs.Option.{option_map}
 use Rattle.sp_rect.specs.Plane.{meets}
 use Rattle.std.specs.List.{AllByRecursion, IsDistinct}
 use Rattle.std.specs.List.Sorted.{IsPermutation}
-use Rattle.sp_rect.specs.Plane.{Rectangle, whole}
+use Rattle.sp_rect.specs.Plane.{Rectangle, whole, IsRectangle}
 use Rattle.sp_node.specs.declared.node.Entry.{Entry}
 use Rattle.sp_node.specs.declared.node.Child.{Child}
 use Rattle.sp_node.specs.declared.node.Node.{Node}
@@ -86,6 +86,8 @@ pub record IsValidAt (t : Table) (level : ℕ) : Type 0 where
   pub root_size : IsRootSize t.shape level (length (body_at (look t.nodes) level t.root))
   pub sound : AreSound t.shape level (body_at (look t.nodes) level t.root)
   pub distinct_entries : IsDistinct nat_eq (map (λ e. e.number) (entries level (body_at (look t.nodes) level t.root)))
+  -- entries lie in space
+  pub in_space : AllByRecursion (λ e. IsRectangle e.rect) (entries level (body_at (look t.nodes) level t.root))
 
 abbrev pub IsValid : Table → Type 0
 IsValid t = IsValidAt t (level_of t)
