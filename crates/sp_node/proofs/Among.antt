@@ -1,11 +1,7 @@
 -- Membership by cases.
+pub use Rattle.sp_node.specs.Among.{Among}
 use Rattle.std.proofs.Common.{◌≡◌, List, [], ◌∷◌, ◌++◌, inl, inr, ◌⊎◌, sym, subst}
 use Rattle.std.specs.List.{AllByRecursion}
-
--- one of the list
-abbrev pub Among : {X : Type 0} → X → List X → Type 0
-Among x [] = ⊥
-Among x (y ∷ ys) = (x ≡ y) ⊎ Among x ys
 
 module _ {X : Type 0} (x : X) where
   pub among_left : (xs ys : List X) → Among x xs → Among x (xs ++ ys)

@@ -12,3 +12,4 @@ pub mod Insertion
 pub mod ByNumber
 pub mod Adopt
 pub mod Single
+pub mod Changed

@@ -1,6 +1,8 @@
 // Nodes of a tree and what stands in them.
-ghost use Rattle.std.specs.Prelude.{◌≡◌, IfOk, OnOk, ◌++◌};
+ghost use Rattle.std.specs.Prelude.{◌≡◌, IfOk, OnOk, ◌++◌, MatchOption, false};
 ghost use Rattle.sp_node.specs.Look.{entries_of_node};
+ghost use Rattle.sp_node.specs.Index.{has_number};
+ghost use Rattle.sp_node.specs.First.{changed, first_changed, node_first_changed, IsPlaceOf};
 
 use crate::marks::Marks;
 use sp_list::Sequence;
@@ -61,6 +63,63 @@ impl Entry {
             value,
             marks,
         })
+    }
+}
+
+/// What is done to an entry.
+#[derive(Drop)]
+pub(crate) enum Change {
+    /// It gets these marks.
+    Mark(Marks),
+    /// The transaction commits.
+    Settle(u64),
+    /// The transaction rolls back.
+    Undo(u64),
+}
+
+// Changes an entry.
+fn change_entry(entry: &mut Entry, change: Change)
+    ensures { entry.new ≡ changed change entry.old }
+{
+    match change {
+        Change::Mark(marks) => entry.marks = marks,
+        Change::Settle(txn) => entry.marks.settle(&mut entry.value, txn),
+        Change::Undo(txn) => entry.marks.undo(txn),
+    }
+}
+
+// Changes the entry of this number.
+fn change_entries(entries: &mut Vec<Entry>, number: u64, change: Change)
+    ensures { entries.new.items ≡ first_changed number (changed change) entries.old.items }
+{
+    if let Some(at) = place_of(entries.as_slice(), number) {
+        change_entry(&mut entries[at], change);
+    }
+}
+
+// The place of the entry of this number.
+fn place_of(entries: &[Entry], number: u64) -> Option<usize>
+    ensures { MatchOption result (has_number entries.now number ≡ false) (λ at. IsPlaceOf number entries.now at) }
+{
+    for (i, entry) in entries.iter().enumerate() {
+        if entry.number == number {
+            return Some(i);
+        }
+    }
+    None
+}
+
+/// The node with the entry of this number changed.
+pub(crate) fn change_node(node: Node, number: u64, change: Change) -> Node
+    ensures { result ≡ node_first_changed number (changed change) node }
+{
+    match node {
+        Node::Leaf(entries) => {
+            let mut items = entries.into_vec();
+            change_entries(&mut items, number, change);
+            Node::Leaf(Entries::from_vec(items))
+        }
+        Node::Inner(children) => Node::Inner(children),
     }
 }
 
