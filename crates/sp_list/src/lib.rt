@@ -2,8 +2,10 @@
 //! workspace, and the text type that output is built in.
 #![tactic(auto)]
 
+mod duplicate;
 mod sequence;
 mod text;
 
+pub use duplicate::Duplicate;
 pub use sequence::Sequence;
 pub use text::Text;

@@ -1,8 +1,9 @@
 // A list of members, which contracts see as a list.
-ghost use Rattle.std.specs.Prelude.{◌≡◌, ◌≤◌, ◌<◌, ◌^◌, ◌++◌, ◌∷◌, [], length, slice_get, insert, not, if◌then◌else◌, is_ok};
+ghost use Rattle.std.specs.Prelude.{◌≡◌, ◌≤◌, ◌<◌, ◌^◌, ◌++◌, ◌∷◌, [], length, slice_get, insert, take, if◌then◌else◌, is_ok, IfOk};
 ghost use Rattle.std.specs.Option.{option_copied};
 ghost use Rattle.sp_list.specs.Emptiness.{is_empty};
 
+use crate::Duplicate;
 use std::alloc::{AllocError, Global};
 use std::marker::Model;
 
@@ -91,4 +92,21 @@ impl<T: Drop> Sequence<T> {
     {
         self.members.as_slice()
     }
+}
+
+impl<T: Duplicate> Duplicate for Sequence<T> {
+    fn copy(&self, alloc: Global) -> Result<Sequence<T>, AllocError> {
+        let members = copy_members(alloc, self.members.as_slice())?;
+        Ok(Sequence { members })
+    }
+}
+
+fn copy_members<T: Duplicate>(alloc: Global, members: &[T]) -> Result<Vec<T>, AllocError>
+    ensures { IfOk result (λ copied. copied.items ≡ members.now) }
+{
+    let mut copied = Vec::with_capacity(alloc, members.len())?;
+    for member in members {
+        copied.push(member.copy(alloc)?)?;
+    }
+    Ok(copied)
 }
