@@ -1,6 +1,6 @@
 -- A change of entries that leaves their numbers and rectangles leaves the tree as it stands: its nodes, spaces
 -- and rectangles, and that it is valid.
-use Rattle.std.proofs.Common.{◌≡◌, ℕ, zero, suc, ◌<◌, ◌≤◌, Bool, true, false, cond, ◌||◌, List, [], ◌∷◌, ◌++◌, length, Option, Some, None, map, refl, sym, ap, ◌∙◌, subst, arith}
+use Rattle.std.proofs.Common.{◌≡◌, ℕ, zero, suc, ◌<◌, ◌≤◌, Bool, true, false, cond, ◌||◌, List, [], ◌∷◌, ◌++◌, length, Option, Some, None, map, refl, sym, ap, ◌∙◌, subst}
 use Rattle.std.specs.Prelude.{nat_eq}
 use Rattle.std.specs.List.{AllByRecursion, flat_map, IsDistinct}
 use Rattle.std.specs.List.Sorted.{IsPermutation}
@@ -14,12 +14,12 @@ use Rattle.sp_node.specs.declared.node.Node.{Node}
 use Rattle.sp_node.specs.declared.node.Node.TheVariants.{Leaf, Inner}
 use Rattle.sp_node.specs.declared.node.Shape.{Shape}
 use Rattle.sp_node.specs.Look.{look, entries_in, entries_of_node, IsAscending}
-use Rattle.sp_node.specs.Nested.{Body, Branch, Member, Place, places, rects, rect_of, node, entries, AreSound, IsRootSize}
+use Rattle.sp_node.specs.Nested.{Body, Branch, Member, Place, places, rects, entries, AreSound, IsRootSize}
 use Rattle.sp_node.specs.Table.{Table, children_in, body_at, IsLeaf, IsInner, Stands, below_first, depth, level_of, numbers_at, places_of, entries_of, IsValidAt, IsValid}
 use Rattle.sp_node.specs.Change.{node_with, nodes_with, table_with, Keeps}
-use Rattle.sp_node.specs.Index.{has_number, IsIndex, leaf_with}
-use Rattle.sp_node.proofs.Lists.{all_map, all_unmap, all_imply, map-flat_map}
-use Rattle.sp_node.proofs.Frame.{map_same}
+use Rattle.sp_node.specs.Ids.{is_known, AreKnown}
+use Rattle.sp_node.specs.Index.{has_number, IsIndex, AreAllKnown, leaf_with}
+use Rattle.sp_node.proofs.Lists.{all_map, all_imply}
 
 module _ (change : Entry → Entry) where
   -- members with the entries below them changed
@@ -228,3 +228,7 @@ module _ (change : Entry → Entry) where
     pub ascending_with : (ns : List (ℕ × Node)) → IsAscending ns → IsAscending (nodes_with change ns)
     ascending_with [] a = tt
     ascending_with (n ∷ ns) a = (all_keys (λ m. n.0 < m) ns a.0, ascending_with ns a.1)
+
+    -- each entry stays known under its id
+    pub known_with : (known : List (ℕ × ℕ)) (nodes : List (ℕ × Node)) → AreAllKnown known nodes → AreAllKnown known (nodes_with change nodes)
+    known_with known nodes all k = subst (AreKnown known) (sym (ap entries_in (look_with nodes k) ∙ entries_in_with (look nodes k))) (all_map (λ (e : Entry). is_known known e.id e.number ≡ true) change (entries_in (look nodes k)) (all_imply (λ e h. (λ i. is_known known (keeps.id e i) (keeps.number e i)) ∙ h) (entries_in (look nodes k)) (all k)))

@@ -13,3 +13,8 @@ pub mod ByNumber
 pub mod Adopt
 pub mod Single
 pub mod Changed
+pub mod Entries
+pub mod Known
+pub mod Members
+pub mod Standing
+pub mod Marking

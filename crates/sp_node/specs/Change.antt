@@ -4,6 +4,7 @@ use Rattle.sp_node.specs.declared.node.Entry.{Entry}
 use Rattle.sp_node.specs.declared.node.Node.{Node}
 use Rattle.sp_node.specs.declared.node.Node.TheVariants.{Leaf, Inner}
 use Rattle.sp_node.specs.Table.{Table}
+use Rattle.sp_node.specs.Plan.{Roomy}
 
 -- the change, at the entry of this number alone
 abbrev pub at_number : ℕ → (Entry → Entry) → Entry → Entry
@@ -26,3 +27,7 @@ pub record Keeps (change : Entry → Entry) : Type 0 where
   pub number : (e : Entry) → (change e).number ≡ e.number
   pub id : (e : Entry) → (change e).id ≡ e.id
   pub rect : (e : Entry) → (change e).rect ≡ e.rect
+
+-- the same with room, which stays
+abbrev pub roomy_with : (Entry → Entry) → Roomy → Roomy
+roomy_with change r = record { table = table_with change r.table; node_room = r.node_room; entry_room = r.entry_room; known = r.known }

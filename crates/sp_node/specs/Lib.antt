@@ -6,6 +6,8 @@ pub mod Table
 pub mod Insertion
 pub mod Change
 pub mod First
+pub mod Ids
+pub mod Standing
 pub mod Index
 pub mod Plan
 pub mod Reading

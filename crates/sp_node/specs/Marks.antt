@@ -1,5 +1,5 @@
 -- What the end of a transaction makes of its marks on an entry.
-use Rattle.std.specs.Prelude.{ℕ, Bool, true, false, List, cond, nat_eq}
+use Rattle.std.specs.Prelude.{ℕ, Bool, false, List, cond, nat_eq}
 use Rattle.sp_node.specs.declared.marks.Made.{Made}
 use Rattle.sp_node.specs.declared.marks.Made.TheVariants.{Committed, By as MadeBy}
 use Rattle.sp_node.specs.declared.marks.Ended.{Ended}

@@ -1,7 +1,8 @@
 // What transactions have done to an entry.
-ghost use Rattle.std.specs.Prelude.{◌≡◌, IfOk};
+ghost use Rattle.std.specs.Prelude.{◌≡◌};
 ghost use Rattle.sp_node.specs.Marks.{is_made_by, is_ended_by, is_draft_of, made_settled, ended_settled, ended_undone, draft_left, drafted};
 
+use sp_list::Duplicate;
 use sp_rect::Value;
 use std::alloc::{AllocError, Global};
 use std::mem;
@@ -102,11 +103,10 @@ impl Draft {
             Draft::None => false,
         }
     }
+}
 
-    /// A draft of the same transaction and value.
-    pub fn copy(&self, alloc: Global) -> Result<Draft, AllocError>
-        ensures { IfOk result (λ d. d ≡ self.now) }
-    {
+impl Duplicate for Draft {
+    fn copy(&self, alloc: Global) -> Result<Draft, AllocError> {
         match self {
             Draft::None => Ok(Draft::None),
             Draft::Of(txn, value) => Ok(Draft::Of(*txn, value.copy(alloc)?)),
@@ -156,11 +156,10 @@ impl Marks {
         self.ended = self.ended.undone(self.made, txn);
         drop_draft(&mut self.draft, txn);
     }
+}
 
-    /// The same marks.
-    pub fn copy(&self, alloc: Global) -> Result<Marks, AllocError>
-        ensures { IfOk result (λ m. m ≡ self.now) }
-    {
+impl Duplicate for Marks {
+    fn copy(&self, alloc: Global) -> Result<Marks, AllocError> {
         let draft = self.draft.copy(alloc)?;
         Ok(Marks {
             made: self.made,

@@ -1,11 +1,11 @@
 // Nodes of a tree and what stands in them.
-ghost use Rattle.std.specs.Prelude.{◌≡◌, IfOk, OnOk, ◌++◌, MatchOption, false};
+ghost use Rattle.std.specs.Prelude.{◌≡◌, MatchOption, false};
 ghost use Rattle.sp_node.specs.Look.{entries_of_node};
 ghost use Rattle.sp_node.specs.Index.{has_number};
 ghost use Rattle.sp_node.specs.First.{changed, first_changed, node_first_changed, IsPlaceOf};
 
 use crate::marks::Marks;
-use sp_list::Sequence;
+use sp_list::{Duplicate, Sequence};
 use sp_rect::{Rect, Value};
 use std::alloc::{AllocError, Global};
 
@@ -49,11 +49,8 @@ pub enum Node {
 /// Nodes with their numbers.
 pub type Nodes = Sequence<(u64, Node)>;
 
-impl Entry {
-    /// The same entry.
-    pub fn copy(&self, alloc: Global) -> Result<Entry, AllocError>
-        ensures { IfOk result (λ e. e ≡ self.now) }
-    {
+impl Duplicate for Entry {
+    fn copy(&self, alloc: Global) -> Result<Entry, AllocError> {
         let value = self.value.copy(alloc)?;
         let marks = self.marks.copy(alloc)?;
         Ok(Entry {
@@ -63,6 +60,21 @@ impl Entry {
             value,
             marks,
         })
+    }
+}
+
+impl Duplicate for Child {
+    fn copy(&self, _alloc: Global) -> Result<Child, AllocError> {
+        Ok(*self)
+    }
+}
+
+impl Duplicate for Node {
+    fn copy(&self, alloc: Global) -> Result<Node, AllocError> {
+        match self {
+            Node::Leaf(entries) => Ok(Node::Leaf(entries.copy(alloc)?)),
+            Node::Inner(children) => Ok(Node::Inner(children.copy(alloc)?)),
+        }
     }
 }
 
@@ -123,26 +135,6 @@ pub(crate) fn change_node(node: Node, number: u64, change: Change) -> Node
     }
 }
 
-// Puts copies of the entries at the end.
-fn push_copies(alloc: Global, copies: &mut Entries, entries: &[Entry]) -> Result<(), AllocError>
-    ensures { OnOk result (copies.new ≡ copies.old ++ entries.now) }
-{
-    for entry in entries {
-        copies.push(entry.copy(alloc)?)?;
-    }
-    Ok(())
-}
-
-// Puts the children at the end.
-fn push_children(copies: &mut Children, children: &[Child]) -> Result<(), AllocError>
-    ensures { OnOk result (copies.new ≡ copies.old ++ children.now) }
-{
-    for child in children {
-        copies.push(*child)?;
-    }
-    Ok(())
-}
-
 impl Node {
     /// The entries of a leaf, and none of an inner node.
     pub fn entries(&self) -> &[Entry]
@@ -151,24 +143,6 @@ impl Node {
         match self {
             Node::Leaf(entries) => entries.as_slice(),
             Node::Inner(_) => &[],
-        }
-    }
-
-    /// A node with the same members. Costs the members.
-    pub fn copy(&self, alloc: Global) -> Result<Node, AllocError>
-        ensures { IfOk result (λ n. n ≡ self.now) }
-    {
-        match self {
-            Node::Leaf(entries) => {
-                let mut copies = Entries::new(alloc);
-                push_copies(alloc, &mut copies, entries.as_slice())?;
-                Ok(Node::Leaf(copies))
-            }
-            Node::Inner(children) => {
-                let mut copies = Children::new(alloc);
-                push_children(&mut copies, children.as_slice())?;
-                Ok(Node::Inner(copies))
-            }
         }
     }
 }
