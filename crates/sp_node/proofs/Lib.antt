@@ -1,0 +1,14 @@
+pub mod Lists
+pub mod Pairs
+pub mod Descent
+pub mod Weight
+pub mod Backwards
+pub mod Empty
+pub mod Frame
+pub mod Among
+pub mod Update
+pub mod Level
+pub mod Insertion
+pub mod ByNumber
+pub mod Adopt
+pub mod Single
