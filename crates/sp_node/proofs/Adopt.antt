@@ -1,6 +1,7 @@
 -- A plan's parts: what stands under the numbers after them, and which leaf has an entry.
 use Rattle.std.proofs.Common.{◌≡◌, ℕ, zero, suc, ◌<◌, ◌≤◌, Bool, true, false, cond, ◌||◌, List, [], ◌∷◌, ◌++◌, length, take, drop, Option, Some, None, refl, sym, ap, ◌∙◌, subst, arith, inl, inr, ◌⊎◌, get_or}
-use Rattle.std.specs.Prelude.{nat_eq, ltb}
+use Rattle.std.specs.Prelude.{nat_eq, ltb, IsSome}
+use Rattle.sp_node.specs.declared.node.Entry.{Entry}
 use Rattle.sp_node.proofs.Lists.{all_imply}
 use Rattle.std.specs.List.{AllByRecursion}
 use Rattle.std.proofs.lemmas.Bool.Decides.{nat_tests}
@@ -8,8 +9,11 @@ use Rattle.sp_node.specs.declared.node.Node.{Node}
 use Rattle.sp_node.specs.declared.plan.Part.{Part}
 use Rattle.sp_node.specs.declared.plan.Part.TheVariants.{Now, Gone}
 use Rattle.sp_node.specs.Look.{look, entries_in}
-use Rattle.sp_node.specs.Index.{has_number, is_held, noted, IsIndex}
-use Rattle.sp_node.specs.Plan.{number_of, content, with_part, with_parts, AreOrdered, entry_count, put_part}
+use Rattle.sp_node.specs.Among.{Among}
+use Rattle.sp_node.specs.Ids.{is_known, AreKnown}
+use Rattle.sp_node.specs.Index.{has_number, is_held, noted, IsIndex, AreAllKnown}
+use Rattle.sp_node.specs.Plan.{number_of, content, with_part, with_parts, AreNoted, AreOrdered, entry_count, put_part}
+use Rattle.sp_node.proofs.Entries.{has_from_among}
 use Rattle.sp_node.proofs.Pairs.{look_put, look_take}
 
 -- the last part first
@@ -285,3 +289,27 @@ ordered_put (x ∷ ps) p a l = by_test (ltb (number_of x) (number_of p)) refl (o
     by_test false e more =
         let lt = above (number_of x) (number_of p) e (unlisted_head (nat_eq (number_of p) (number_of x)) (listed ps (number_of p)) l) in
         ((lt, all_imply {P = λ r. number_of x < number_of r} {Q = λ r. number_of p < number_of r} (λ r h. omega (arith, lt, h)) ps a.0), a)
+
+-- the entries after a change are known, where those that still have a leaf are kept
+module _ (known known' : List (ℕ × ℕ)) (leaf' : ℕ → Option ℕ) (nodes : List (ℕ × Node)) (ps : List Part) where
+  known_part : (qs : List Part) (k : ℕ) (o : Option Node) → AreNoted known qs → AreKnown known (entries_in o) → AreKnown known (entries_in (part_at qs k o))
+  known_part [] k o n h = h
+  known_part (p ∷ qs) k o n h = by_test (nat_eq k (number_of p)) (known_part qs k o n.1 h)
+    where
+      by_test : (b : Bool) → AreKnown known (entries_in (part_at qs k o)) → AreKnown known (entries_in (cond b (content p) (part_at qs k o)))
+      by_test true more = n.0
+      by_test false more = more
+
+  each_kept : (es : List Entry) → ((e : Entry) → Among e es → is_known known' e.id e.number ≡ is_known known e.id e.number) → AreKnown known es → AreKnown known' es
+  each_kept [] f h = tt
+  each_kept (e ∷ es) f h = (f e (inl refl) ∙ h.0, each_kept es (λ x a. f x (inr a)) h.1)
+
+  pub known_after : AreAllKnown known nodes → AreNoted known ps → IsIndex leaf' (with_parts nodes ps) → ((i n : ℕ) → IsSome (leaf' n) → is_known known' i n ≡ is_known known i n) → AreAllKnown known' (with_parts nodes ps)
+  known_after before noted index kept k =
+      let es = entries_in (look (with_parts nodes ps) k) in
+      each_kept es (λ e a. kept e.id e.number (some (leaf' e.number) k ((index e.number k).1 (has_from_among e es a))))
+      (subst (λ (o : Option Node). AreKnown known (entries_in o)) (sym (look_parts nodes ps k)) (known_part ps k (look nodes k) noted (before k)))
+    where
+      some : (o : Option ℕ) (k : ℕ) → o ≡ Some k → IsSome o
+      some None k e = cc
+      some (Some j) k e = refl

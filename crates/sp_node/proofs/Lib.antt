@@ -12,3 +12,9 @@ pub mod Insertion
 pub mod ByNumber
 pub mod Adopt
 pub mod Single
+pub mod Changed
+pub mod Entries
+pub mod Known
+pub mod Members
+pub mod Standing
+pub mod Marking

@@ -48,11 +48,11 @@ module _ (q : ℕ) where
       by_test true k h f = subst (IsNone x) (sym (same k)) a.0
       by_test false k h f = f h
 
-  absent : (es : List Entry) → IsNone (map (λ e. e.number) es) q → has_number es q ≡ false
+  pub absent : (es : List Entry) → IsNone (map (λ e. e.number) es) q → has_number es q ≡ false
   absent [] n = refl
   absent (e ∷ es) n = ap (λ (b : Bool). b || has_number es q) n.0 ∙ absent es n.1
 
-  has_append : (es fs : List Entry) → has_number (es ++ fs) q ≡ (has_number es q || has_number fs q)
+  pub has_append : (es fs : List Entry) → has_number (es ++ fs) q ≡ (has_number es q || has_number fs q)
   has_append [] fs = refl
   has_append (e ∷ es) fs = ap (λ (b : Bool). nat_eq q e.number || b) (has_append es fs) ∙ turn (nat_eq q e.number) (has_number es q) (has_number fs q)
     where
@@ -60,7 +60,7 @@ module _ (q : ℕ) where
       turn true b c = refl
       turn false b c = refl
 
-  has_among : (p : Place) (ps : List Place) → Among p ps → has_number (own p) q ≡ true → has_number (flat_map own ps) q ≡ true
+  pub has_among : (p : Place) (ps : List Place) → Among p ps → has_number (own p) q ≡ true → has_number (flat_map own ps) q ≡ true
   has_among p [] a h = absurd a
   has_among p (r ∷ ps) (inl e) h = has_append (own r) (flat_map own ps) ∙ ap (λ (b : Bool). b || has_number (flat_map own ps) q) (ap (λ (x : Place). has_number (own x) q) (sym e) ∙ h)
   has_among p (r ∷ ps) (inr a) h = has_append (own r) (flat_map own ps) ∙ or_true (has_number (own r) q) _ (has_among p ps a h)

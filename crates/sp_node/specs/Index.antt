@@ -5,6 +5,7 @@ use Rattle.sp_node.specs.Look.{look, entries_in, entries_of_node}
 use Rattle.sp_node.specs.declared.node.Entry.{Entry}
 use Rattle.sp_node.specs.declared.plan.Part.{Part}
 use Rattle.sp_node.specs.Plan.{number_of, content}
+use Rattle.sp_node.specs.Ids.{AreKnown}
 use Rattle.sp_node.specs.declared.node.Node.{Node}
 
 abbrev pub has_number : List Entry → ℕ → Bool
@@ -37,3 +38,12 @@ is_held nodes (p ∷ ps) q = has_number (entries_in (look nodes (number_of p))) 
 abbrev pub noted : List Part → ℕ → Option ℕ → Option ℕ
 noted [] q before = before
 noted (p ∷ ps) q before = cond (has_number (entries_in (content p)) q) (Some (number_of p)) (noted ps q before)
+
+-- the entry of this number has the id
+abbrev pub has_id : ℕ → Option Entry → Bool
+has_id id None = false
+has_id id (Some e) = nat_eq id e.id
+
+-- each entry is known under its id
+abbrev pub AreAllKnown : List (ℕ × ℕ) → List (ℕ × Node) → Type 0
+AreAllKnown known nodes = (k : ℕ) → AreKnown known (entries_in (look nodes k))

@@ -107,3 +107,7 @@ entries_meeting t q = map (λ e. e.number) (filter (λ e. meets e.rect q) (entri
 -- the numbers of the nodes whose space meets a rectangle
 unfoldable pub nodes_meeting : Table → Rectangle → List ℕ
 nodes_meeting t q = map (λ p. p.number) (filter (λ p. meets p.space q) (places_of t))
+
+-- the numbers of the entries with this id
+unfoldable pub entries_with_id : Table → ℕ → List ℕ
+entries_with_id t id = map (λ e. e.number) (filter (λ e. nat_eq id e.id) (entries_of t))

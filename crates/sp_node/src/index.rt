@@ -1,13 +1,16 @@
 // Which leaf has an entry.
-ghost use Rattle.std.specs.Prelude.{◌≡◌, ◌+◌, ◌≤◌, ℕ, IfSome, Some, None, cond, length, nat_eq};
+ghost use Rattle.std.specs.Prelude.{◌≡◌, ◌+◌, ◌≤◌, ℕ, IfSome, Some, None, cond, length, nat_eq, OnOk, IsSome, true};
 ghost use Rattle.std.specs.HashMap.{get, spare};
 ghost use Rattle.std.specs.Option.{option_copied};
 ghost use Rattle.sp_node.specs.Index.{has_number, entry_in, is_held, noted};
-ghost use Rattle.sp_node.specs.Plan.{entry_count};
+ghost use Rattle.sp_node.specs.Plan.{entry_count, AreNoted};
+ghost use Rattle.sp_node.specs.Ids.{is_known, AreKnown};
 
+use crate::ids::Ids;
 use crate::node::Entry;
 use crate::plan::Part;
 use crate::table::NodeTable;
+use std::alloc::AllocError;
 use std::collections::HashMap;
 
 // Forgets the leaf of each entry.
@@ -75,4 +78,54 @@ pub(crate) fn entry_at(entries: &[Entry], number: u64) -> Option<&Entry>
         }
     }
     None
+}
+
+// Notes the ids of the entries.
+fn note_ids_of(ids: &mut Ids, entries: &[Entry]) -> Result<(), AllocError>
+    ensures noted { OnOk result (AreKnown ids.new entries.now) }
+    ensures kept { (i n : ℕ) → is_known ids.old i n ≡ true → is_known ids.new i n ≡ true }
+{
+    'back: for i in (0..entries.len()).rev() {
+        let entry = &entries[i];
+        ids.note(entry.id, entry.number)?;
+    }
+    Ok(())
+}
+
+/// Notes the ids of the entries of the leaves among the parts.
+pub(crate) fn note_ids(ids: &mut Ids, parts: &[Part]) -> Result<(), AllocError>
+    ensures noted { OnOk result (AreNoted ids.new parts.now) }
+    ensures kept { (i n : ℕ) → is_known ids.old i n ≡ true → is_known ids.new i n ≡ true }
+{
+    'back: for i in (0..parts.len()).rev() {
+        note_ids_of(ids, parts[i].entries())?;
+    }
+    Ok(())
+}
+
+// Forgets the ids of those entries that have no leaf.
+fn forget_ids_of(ids: &mut Ids, leaves: &HashMap<u64, u64>, entries: &[Entry])
+    ensures { (i n : ℕ) → IsSome (get nat_eq leaves.now n) → is_known ids.new i n ≡ is_known ids.old i n }
+{
+    for entry in entries {
+        if !leaves.contains_key(&entry.number) {
+            ids.forget(entry.id, entry.number);
+        }
+    }
+}
+
+/// Forgets the ids of those entries that have no leaf, of those that stood in the leaves of the parts' numbers.
+pub(crate) fn forget_ids(
+    ids: &mut Ids,
+    leaves: &HashMap<u64, u64>,
+    nodes: &NodeTable,
+    parts: &[Part],
+)
+    ensures { (i n : ℕ) → IsSome (get nat_eq leaves.now n) → is_known ids.new i n ≡ is_known ids.old i n }
+{
+    for part in parts {
+        if let Some(node) = nodes.get(part.number()) {
+            forget_ids_of(ids, leaves, node.entries());
+        }
+    }
 }

@@ -3,6 +3,7 @@
 //! change makes of a tree.
 #![tactic(auto)]
 
+mod ids;
 mod index;
 mod marks;
 mod node;

@@ -1,9 +1,11 @@
 // Nodes of a tree and what stands in them.
-ghost use Rattle.std.specs.Prelude.{◌≡◌, IfOk, OnOk, ◌++◌};
+ghost use Rattle.std.specs.Prelude.{◌≡◌, MatchOption, false};
 ghost use Rattle.sp_node.specs.Look.{entries_of_node};
+ghost use Rattle.sp_node.specs.Index.{has_number};
+ghost use Rattle.sp_node.specs.First.{changed, first_changed, node_first_changed, IsPlaceOf};
 
 use crate::marks::Marks;
-use sp_list::Sequence;
+use sp_list::{Duplicate, Sequence};
 use sp_rect::{Rect, Value};
 use std::alloc::{AllocError, Global};
 
@@ -47,11 +49,8 @@ pub enum Node {
 /// Nodes with their numbers.
 pub type Nodes = Sequence<(u64, Node)>;
 
-impl Entry {
-    /// The same entry.
-    pub fn copy(&self, alloc: Global) -> Result<Entry, AllocError>
-        ensures { IfOk result (λ e. e ≡ self.now) }
-    {
+impl Duplicate for Entry {
+    fn copy(&self, alloc: Global) -> Result<Entry, AllocError> {
         let value = self.value.copy(alloc)?;
         let marks = self.marks.copy(alloc)?;
         Ok(Entry {
@@ -64,24 +63,76 @@ impl Entry {
     }
 }
 
-// Puts copies of the entries at the end.
-fn push_copies(alloc: Global, copies: &mut Entries, entries: &[Entry]) -> Result<(), AllocError>
-    ensures { OnOk result (copies.new ≡ copies.old ++ entries.now) }
-{
-    for entry in entries {
-        copies.push(entry.copy(alloc)?)?;
+impl Duplicate for Child {
+    fn copy(&self, _alloc: Global) -> Result<Child, AllocError> {
+        Ok(*self)
     }
-    Ok(())
 }
 
-// Puts the children at the end.
-fn push_children(copies: &mut Children, children: &[Child]) -> Result<(), AllocError>
-    ensures { OnOk result (copies.new ≡ copies.old ++ children.now) }
-{
-    for child in children {
-        copies.push(*child)?;
+impl Duplicate for Node {
+    fn copy(&self, alloc: Global) -> Result<Node, AllocError> {
+        match self {
+            Node::Leaf(entries) => Ok(Node::Leaf(entries.copy(alloc)?)),
+            Node::Inner(children) => Ok(Node::Inner(children.copy(alloc)?)),
+        }
     }
-    Ok(())
+}
+
+/// What is done to an entry.
+#[derive(Drop)]
+pub(crate) enum Change {
+    /// It gets these marks.
+    Mark(Marks),
+    /// The transaction commits.
+    Settle(u64),
+    /// The transaction rolls back.
+    Undo(u64),
+}
+
+// Changes an entry.
+fn change_entry(entry: &mut Entry, change: Change)
+    ensures { entry.new ≡ changed change entry.old }
+{
+    match change {
+        Change::Mark(marks) => entry.marks = marks,
+        Change::Settle(txn) => entry.marks.settle(&mut entry.value, txn),
+        Change::Undo(txn) => entry.marks.undo(txn),
+    }
+}
+
+// Changes the entry of this number.
+fn change_entries(entries: &mut Vec<Entry>, number: u64, change: Change)
+    ensures { entries.new.items ≡ first_changed number (changed change) entries.old.items }
+{
+    if let Some(at) = place_of(entries.as_slice(), number) {
+        change_entry(&mut entries[at], change);
+    }
+}
+
+// The place of the entry of this number.
+fn place_of(entries: &[Entry], number: u64) -> Option<usize>
+    ensures { MatchOption result (has_number entries.now number ≡ false) (λ at. IsPlaceOf number entries.now at) }
+{
+    for (i, entry) in entries.iter().enumerate() {
+        if entry.number == number {
+            return Some(i);
+        }
+    }
+    None
+}
+
+/// The node with the entry of this number changed.
+pub(crate) fn change_node(node: Node, number: u64, change: Change) -> Node
+    ensures { result ≡ node_first_changed number (changed change) node }
+{
+    match node {
+        Node::Leaf(entries) => {
+            let mut items = entries.into_vec();
+            change_entries(&mut items, number, change);
+            Node::Leaf(Entries::from_vec(items))
+        }
+        Node::Inner(children) => Node::Inner(children),
+    }
 }
 
 impl Node {
@@ -92,24 +143,6 @@ impl Node {
         match self {
             Node::Leaf(entries) => entries.as_slice(),
             Node::Inner(_) => &[],
-        }
-    }
-
-    /// A node with the same members. Costs the members.
-    pub fn copy(&self, alloc: Global) -> Result<Node, AllocError>
-        ensures { IfOk result (λ n. n ≡ self.now) }
-    {
-        match self {
-            Node::Leaf(entries) => {
-                let mut copies = Entries::new(alloc);
-                push_copies(alloc, &mut copies, entries.as_slice())?;
-                Ok(Node::Leaf(copies))
-            }
-            Node::Inner(children) => {
-                let mut copies = Children::new(alloc);
-                push_children(&mut copies, children.as_slice())?;
-                Ok(Node::Inner(copies))
-            }
         }
     }
 }

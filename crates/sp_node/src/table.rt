@@ -3,15 +3,18 @@ ghost use Rattle.std.specs.Prelude.{◌≡◌, ◌+◌, ◌<◌, ◌≤◌, ◌-
 ghost use Rattle.std.specs.Option.{option_copied};
 ghost use Rattle.sp_node.specs.Look.{look, IsAscending, put_node, take_out};
 ghost use Rattle.sp_node.specs.Plan.{with_parts};
+ghost use Rattle.sp_node.specs.First.{changed, node_first_changed, first_node_changed};
 
-use crate::node::Node;
+use crate::node::{Change, Children, Node, change_node};
 use crate::plan::{Part, Parts};
 use std::alloc::{AllocError, Global};
 use std::marker::Model;
+use std::mem;
 
 /// Nodes by rising number, with room for more.
 #[derive(Drop)]
 pub(crate) struct NodeTable {
+    alloc: Global,
     pairs: Vec<(u64, Node)>,
 }
 
@@ -53,11 +56,25 @@ fn remove_pair(pairs: &mut Vec<(u64, Node)>, number: u64)
     }
 }
 
+// Changes the entry of this number in the leaf under the other.
+fn change_pair(alloc: Global, pairs: &mut Vec<(u64, Node)>, leaf: u64, entry: u64, change: Change)
+    requires { IsAscending pairs.old.items }
+    ensures items { pairs.new.items ≡ first_node_changed leaf (node_first_changed entry (changed change)) pairs.old.items }
+    ensures room { vec_capacity pairs.new - vec_len pairs.new ≡ vec_capacity pairs.old - vec_len pairs.old }
+{
+    if let Ok(at) = pairs.binary_search_by_key(&leaf, |pair| pair.0) {
+        let pair = &mut pairs[at];
+        let node = mem::replace(&mut pair.1, Node::Inner(Children::new(alloc)));
+        pair.1 = change_node(node, entry, change);
+    }
+}
+
 impl NodeTable {
     pub(crate) fn new(alloc: Global) -> NodeTable
         ensures { result.nodes ≡ [] }
     {
         NodeTable {
+            alloc,
             pairs: Vec::new(alloc),
         }
     }
@@ -92,6 +109,14 @@ impl NodeTable {
         ensures room { self.old.room ≤ self.new.room }
     {
         remove_pair(&mut self.pairs, number)
+    }
+
+    /// Changes the entry of this number in the leaf under the other.
+    pub(crate) fn change(&mut self, leaf: u64, entry: u64, change: Change)
+        ensures nodes { self.new.nodes ≡ first_node_changed leaf (node_first_changed entry (changed change)) self.old.nodes }
+        ensures room { self.new.room ≡ self.old.room }
+    {
+        change_pair(self.alloc, &mut self.pairs, leaf, entry, change);
     }
 
     /// Makes what the parts say of the nodes.
