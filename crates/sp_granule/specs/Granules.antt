@@ -2,9 +2,12 @@
 -- Mehrotra ("Dynamic Granular Locking Approach to Phantom Protection in R-Trees", ICDE 1998). A leaf's granule is
 -- its space; an inner node's is what its children's rectangles leave of its space.
 use Rattle.std.specs.Prelude.{◌≡◌, ℕ, zero, suc, Bool, true, false, IsTrue, List, [], ◌∷◌, map, Option, Some, None, cond, nat_eq}
+use Rattle.std.specs.Option.{option_map}
 use Rattle.sp_rect.specs.Plane.{Rectangle, Point, holds}
 use Rattle.sp_region.specs.Region.{is_left}
 use Rattle.sp_node.specs.declared.node.Entry.{Entry}
+use Rattle.sp_node.specs.declared.node.Node.{Node}
+use Rattle.sp_node.specs.declared.node.Node.TheVariants.{Leaf, Inner}
 use Rattle.sp_node.specs.Nested.{Body, Place}
 use Rattle.sp_node.specs.Table.{Table, places_of}
 use Rattle.sp_node.specs.Among.{Among}
@@ -56,4 +59,13 @@ IsMeeting gs rect number = (p : Point) × IsTrue (holds rect p) × HasPoint gs n
 -- the granule of this number
 abbrev pub numbered : List Granule → ℕ → Option Granule
 numbered [] number = None
-numbered (g ∷ gs) number = cond (nat_eq g.number number) (Some g) (numbered gs number)
+numbered (g ∷ gs) number = cond (nat_eq number g.number) (Some g) (numbered gs number)
+
+-- its space
+abbrev pub space_of : List Granule → ℕ → Option Rectangle
+space_of gs number = option_map (λ g. g.space) (numbered gs number)
+
+-- the rectangles of the members of a node
+abbrev pub member_rects : Node → List Rectangle
+member_rects (Leaf entries) = map (λ e. e.rect) entries
+member_rects (Inner children) = map (λ c. c.rect) children

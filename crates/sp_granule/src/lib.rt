@@ -5,6 +5,8 @@
 
 mod cover;
 mod descent;
+mod spaces;
 
 pub use cover::granules_cover_space;
 pub use descent::granule_at;
+pub use spaces::space;

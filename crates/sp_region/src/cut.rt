@@ -25,6 +25,7 @@ fn part(rect: &Rect, x1: i64, y1: i64, x2: i64, y2: i64) -> Option<Rect>
 pub fn common(a: &Rect, b: &Rect) -> Option<Rect>
     ensures points { (p : Point) → held_by result p ≡ (holds a.now p && holds b.now p) }
     ensures some { is_some result ≡ meets a.now b.now }
+    ensures valid { IfSome result (λ r. IsRectangle r) }
 {
     part(
         a,
