@@ -5,8 +5,10 @@
 
 mod cover;
 mod descent;
+mod meeting;
 mod spaces;
 
 pub use cover::granules_cover_space;
 pub use descent::granule_at;
+pub use meeting::granules_meeting;
 pub use spaces::space;
