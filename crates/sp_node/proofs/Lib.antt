@@ -18,3 +18,5 @@ pub mod Known
 pub mod Members
 pub mod Standing
 pub mod Marking
+pub mod Sample
+pub mod Laws

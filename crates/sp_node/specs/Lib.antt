@@ -8,6 +8,7 @@ pub mod Change
 pub mod First
 pub mod Ids
 pub mod Standing
+pub mod Sample
 pub mod Index
 pub mod Plan
 pub mod Reading
