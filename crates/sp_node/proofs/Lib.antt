@@ -8,7 +8,6 @@ pub mod Frame
 pub mod Among
 pub mod Update
 pub mod Level
-pub mod Insertion
 pub mod ByNumber
 pub mod Adopt
 pub mod Single

@@ -3,7 +3,6 @@ pub mod Marks
 pub mod Nested
 pub mod Look
 pub mod Table
-pub mod Insertion
 pub mod Change
 pub mod First
 pub mod Ids
