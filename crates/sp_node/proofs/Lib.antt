@@ -8,7 +8,6 @@ pub mod Frame
 pub mod Among
 pub mod Update
 pub mod Level
-pub mod Insertion
 pub mod ByNumber
 pub mod Adopt
 pub mod Single
@@ -18,3 +17,5 @@ pub mod Known
 pub mod Members
 pub mod Standing
 pub mod Marking
+pub mod Sample
+pub mod Laws

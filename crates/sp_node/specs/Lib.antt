@@ -3,11 +3,11 @@ pub mod Marks
 pub mod Nested
 pub mod Look
 pub mod Table
-pub mod Insertion
 pub mod Change
 pub mod First
 pub mod Ids
 pub mod Standing
+pub mod Sample
 pub mod Index
 pub mod Plan
 pub mod Reading

@@ -11,6 +11,8 @@ mod pages;
 mod plan;
 mod search;
 mod table;
+#[cfg(test)]
+mod tests;
 mod tree;
 
 pub use marks::{Draft, Ended, Made, Marks};

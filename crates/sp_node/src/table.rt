@@ -88,6 +88,13 @@ impl NodeTable {
         }
     }
 
+    // The numbers rise, as proofs about the table have to know.
+    pub(crate) fn rises(&self)
+        ensures { IsAscending self.now.nodes }
+    {
+        let _ = &self.pairs;
+    }
+
     pub(crate) fn reserve(&mut self, additional: usize) -> Result<(), AllocError>
         ensures nodes { self.new.nodes ≡ self.old.nodes }
         ensures ok { OnOk result (additional ≤ self.new.room) }

@@ -6,7 +6,7 @@ ghost use Rattle.std.specs.List.Sorted.{IsPermutation, IsStrictlyIncreasing};
 ghost use Rattle.sp_node.specs.Change.{at_number, roomy_with};
 ghost use Rattle.sp_node.specs.First.{changed};
 ghost use Rattle.sp_node.specs.Index.{leaf_with, entry_of, has_id};
-ghost use Rattle.sp_node.specs.Look.{look};
+ghost use Rattle.sp_node.specs.Look.{look, IsAscending};
 ghost use Rattle.sp_node.specs.Marks.{marked, settled, undone};
 ghost use Rattle.sp_node.specs.Plan.{planned, IsMadeOf, HasRoom};
 ghost use Rattle.sp_node.specs.Standing.{IsNodeOf, HasNoNode, IsEntryOf, HasNoEntry, IsLeafOf};
@@ -94,7 +94,9 @@ impl Tree {
     pub fn next(&self) -> u64
         ensures value { result ≡ self.now.table.next }
         ensures valid { IsValid self.now.table }
+        ensures rising { IsAscending self.now.table.nodes }
     {
+        self.nodes.rises();
         self.next
     }
 
