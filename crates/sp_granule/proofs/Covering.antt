@@ -1,15 +1,14 @@
 -- The granules of a tree cover the space of its root.
-use Rattle.std.proofs.Common.{◌≡◌, ℕ, zero, suc, Bool, true, false, cond, ◌&&◌, not, ◌||◌, IsTrue, List, [], ◌∷◌, ◌++◌, map, refl, sym, ap, inl, inr, ◌⊎◌, arith}
-use Rattle.std.specs.List.{flat_map, list_any}
+use Rattle.std.proofs.Common.{◌≡◌, ℕ, zero, suc, Bool, true, false, ◌&&◌, not, IsTrue, List, [], ◌∷◌, ◌++◌, map, refl, sym, inl, inr, ◌⊎◌}
+use Rattle.std.specs.List.{flat_map}
 use Rattle.std.proofs.lemmas.List.{map-append}
 use Rattle.sp_rect.specs.Plane.{Rectangle, Point, holds, whole}
 use Rattle.sp_region.specs.Region.{covered}
-use Rattle.sp_node.specs.Among.{Among}
-use Rattle.sp_node.specs.Nested.{Body, Branch, Place, places}
+use Rattle.sp_node.specs.Nested.{Body, Branch, places}
 use Rattle.sp_node.specs.Look.{look}
 use Rattle.sp_node.specs.Table.{Table, body_at, level_of}
 use Rattle.sp_node.proofs.Among.{among_left, among_right}
-use Rattle.sp_granule.specs.Granules.{Granule, granule, granule_of_node, granules, in_granule, HasPoint, standing}
+use Rattle.sp_granule.specs.Granules.{Granule, granule, granule_of_node, granules, HasPoint}
 use Rattle.sp_granule.specs.Descent.{first_of, granule_under, granule_of}
 
 -- the granules of a node and of the nodes below it

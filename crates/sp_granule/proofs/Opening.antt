@@ -1,17 +1,16 @@
 -- What one node opens to the search: its own granule, and the children that the rectangle meets.
-use Rattle.std.proofs.Common.{◌≡◌, ℕ, zero, suc, ◌≤◌, Bool, true, false, cond, ◌&&◌, not, IsTrue, List, [], ◌∷◌, ◌++◌, map, Option, Some, None, refl, sym, ap, ◌∙◌, subst, inl, inr, ◌⊎◌, arith}
+use Rattle.std.proofs.Common.{◌≡◌, ℕ, zero, suc, ◌≤◌, Bool, true, false, cond, ◌&&◌, not, IsTrue, List, [], ◌∷◌, ◌++◌, map, Some, None, refl, sym, ap, ◌∙◌, subst, inl, inr, ◌⊎◌, arith}
 use Rattle.std.specs.List.{AllByRecursion, flat_map, filter}
 use Rattle.std.proofs.lemmas.Int.{ints}
 use Rattle.std.proofs.lemmas.List.{map-append}
 use Rattle.std.proofs.lemmas.List.Folds.{flat_map-map}
-use Rattle.sp_rect.specs.Plane.{Rectangle, IsRectangle, Point, point, holds, meets, Holds}
-use Rattle.sp_rect.specs.Inside.{bound_of, Inside, not_met, inside_bound_of, meets-from_Overlap}
+use Rattle.sp_rect.specs.Plane.{Rectangle, IsRectangle, Point, point, holds, meets}
+use Rattle.sp_rect.specs.Inside.{bound_of, inside_bound_of, meets-from_Overlap}
 use Rattle.sp_region.specs.Region.{covered, is_left, LeavesAny}
-use Rattle.sp_region.proofs.Points.{Holds-from_test, test-from_Holds, both_pass, each_passes, corner}
+use Rattle.sp_region.proofs.Points.{Holds-from_test, both_pass, each_passes, corner}
 use Rattle.sp_node.specs.Among.{Among}
 use Rattle.sp_node.specs.declared.node.Entry.{Entry}
 use Rattle.sp_node.specs.declared.node.Child.{Child}
-use Rattle.sp_node.specs.declared.node.Node.{Node}
 use Rattle.sp_node.specs.declared.node.Node.TheVariants.{Leaf, Inner}
 use Rattle.sp_node.specs.Look.{look}
 use Rattle.sp_node.specs.Nested.{Body, Branch, Place, places, rects, AreSound}
@@ -20,11 +19,11 @@ use Rattle.sp_node.proofs.Among.{among_left, among_right, among_split}
 use Rattle.sp_node.proofs.Lists.{filter-map, all_filter, all_imply, all_both, all_map, all_unmap}
 use Rattle.sp_node.proofs.Descent.{Spot, IsReady, seen, seen_at, seen_inner, quiet}
 use Rattle.sp_granule.specs.declared.meeting.Waiting.{Waiting}
-use Rattle.sp_granule.specs.Granules.{Granule, granule, granule_of_node, in_granule, HasPoint, IsMeeting}
-use Rattle.sp_granule.specs.Visit.{IsPart, AreParts}
+use Rattle.sp_granule.specs.Granules.{Granule, granule, granule_of_node, in_granule, IsMeeting}
+use Rattle.sp_granule.specs.Visit.{AreParts}
 use Rattle.sp_granule.proofs.Covering.{granules_under, granules_below}
-use Rattle.sp_granule.proofs.Numbered.{number_kept, space_kept}
-use Rattle.sp_granule.proofs.Walk.{Below, AnyBelow, IsWaiting, AreWaiting, Opens}
+use Rattle.sp_granule.proofs.Numbered.{space_kept}
+use Rattle.sp_granule.proofs.Walk.{AnyBelow, IsWaiting, AreWaiting, Opens}
 
 -- two rectangles with a common point meet
 common_meets : (a b : Rectangle) (p : Point) → IsTrue (holds a p) → IsTrue (holds b p) → meets a b ≡ true

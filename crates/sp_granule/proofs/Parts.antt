@@ -1,8 +1,8 @@
 -- The children that a rectangle meets, each with its part, from the last one to the first.
-use Rattle.std.proofs.Common.{◌≡◌, ℕ, ◌+◌, ◌-◌, ◌<◌, ◌≤◌, Bool, true, false, cond, ◌&&◌, List, [], ◌∷◌, ◌++◌, reverse, drop, length, get_or, refl, sym, ap, subst, ◌∙◌, arith}
+use Rattle.std.proofs.Common.{◌≡◌, ℕ, ◌+◌, ◌-◌, ◌<◌, ◌≤◌, Bool, true, cond, List, [], ◌∷◌, ◌++◌, reverse, drop, length, get_or, sym, ap, subst, ◌∙◌, arith}
 use Rattle.std.specs.List.{filter}
 use Rattle.std.proofs.lemmas.List.{drop_more, reverse-append, append_assoc}
-use Rattle.sp_rect.specs.Plane.{Rectangle, IsRectangle, Point, holds, meets}
+use Rattle.sp_rect.specs.Plane.{Rectangle, meets}
 use Rattle.sp_node.specs.declared.node.Child.{Child}
 use Rattle.sp_granule.specs.declared.meeting.Waiting.{Waiting}
 use Rattle.sp_granule.specs.Visit.{IsPart, AreParts, AreAdded}

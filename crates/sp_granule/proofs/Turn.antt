@@ -1,5 +1,5 @@
 -- The turns of the search for granules, from the root to the end.
-use Rattle.std.proofs.Common.{◌≡◌, ℕ, zero, suc, ◌+◌, ◌<◌, ◌≤◌, Bool, true, false, ◌&&◌, ◌||◌, IsTrue, ◌↔◌, List, [], ◌∷◌, ◌++◌, map, reverse, Option, Some, None, refl, sym, ap, ◌∙◌, subst, inl, inr, ◌⊎◌, arith}
+use Rattle.std.proofs.Common.{◌≡◌, ℕ, zero, suc, ◌+◌, ◌<◌, ◌≤◌, Bool, true, false, ◌&&◌, ◌||◌, ◌↔◌, List, [], ◌∷◌, ◌++◌, reverse, Option, Some, None, refl, sym, ap, ◌∙◌, subst, inl, inr, ◌⊎◌, arith}
 use Rattle.std.specs.Prelude.{nat_eq}
 use Rattle.std.specs.List.{flat_map, filter, sum_by, list_any, IsDistinct}
 use Rattle.std.specs.List.Sorted.{IsPermutation, IsSorted, IsStrictlyIncreasing}
@@ -15,20 +15,18 @@ use Rattle.sp_rect.specs.Plane.{Rectangle, IsRectangle, Point, holds, meets, who
 use Rattle.sp_rect.specs.Inside.{whole_meets}
 use Rattle.sp_region.proofs.Points.{Holds-from_test, test-from_Holds, same_tests, both_pass, each_passes}
 use Rattle.sp_node.specs.Among.{Among}
-use Rattle.sp_node.specs.declared.node.Entry.{Entry}
 use Rattle.sp_node.specs.declared.node.Child.{Child}
 use Rattle.sp_node.specs.declared.node.Node.{Node}
 use Rattle.sp_node.specs.declared.node.Node.TheVariants.{Leaf, Inner}
 use Rattle.sp_node.specs.Look.{look}
-use Rattle.sp_node.specs.Nested.{Place}
-use Rattle.sp_node.specs.Table.{Table, body_at, level_of, Stands, IsLeaf, IsInner, children_in, IsValid, nodes_meeting, places_of}
+use Rattle.sp_node.specs.Table.{Table, level_of, Stands, IsLeaf, children_in, IsValid, nodes_meeting, places_of}
 use Rattle.sp_node.proofs.Weight.{weight, weight_positive, weight_inner}
 use Rattle.sp_node.proofs.Lists.{distinct_filter, sum_filter}
 use Rattle.sp_node.proofs.Descent.{Spot, IsReady, seen_at}
 use Rattle.sp_granule.specs.declared.meeting.Waiting.{Waiting}
 use Rattle.sp_granule.specs.Granules.{granules, IsMeeting}
-use Rattle.sp_granule.specs.Visit.{IsPart, AreParts, AreAdded, IsJudged, IsVisited}
-use Rattle.sp_granule.proofs.Walk.{Walks, IsWaiting, AreWaiting, AnyBelow, Opens, looked, kept, turn_yes, turn_no}
+use Rattle.sp_granule.specs.Visit.{AreParts, IsVisited}
+use Rattle.sp_granule.proofs.Walk.{Walks, IsWaiting, AreWaiting, AnyBelow, looked, turn_yes, turn_no}
 use Rattle.sp_granule.proofs.Opening.{open_leaf, open_inner, opens_something}
 
 module _ (t : Table) (q : Rectangle) where

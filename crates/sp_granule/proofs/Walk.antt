@@ -1,18 +1,17 @@
 -- The search for granules: what waits, what was looked at, and what was found.
-use Rattle.std.proofs.Common.{◌≡◌, ℕ, zero, suc, ◌+◌, ◌<◌, ◌≤◌, Bool, true, false, cond, ◌&&◌, IsTrue, ◌↔◌, List, [], ◌∷◌, ◌++◌, map, reverse, Option, Some, None, refl, sym, ap, ◌∙◌, subst, inl, inr, ◌⊎◌, arith}
-use Rattle.std.specs.List.{flat_map, filter, sum_by}
+use Rattle.std.proofs.Common.{◌≡◌, ℕ, Bool, true, false, ◌&&◌, List, [], ◌∷◌, ◌++◌, map, reverse, refl, sym, ap, ◌∙◌, subst, inl, inr, ◌⊎◌}
+use Rattle.std.specs.List.{flat_map, filter}
 use Rattle.std.proofs.lemmas.List.{append_assoc, append-nil, reverse-append, reverse-reverse, map-append}
 use Rattle.std.proofs.lemmas.List.Elements.{filter-append}
 use Rattle.std.proofs.lemmas.Grind.{flat_map-append}
-use Rattle.sp_rect.specs.Plane.{Rectangle, IsRectangle, Point, holds, meets, whole}
+use Rattle.sp_rect.specs.Plane.{Rectangle, IsRectangle, Point, holds}
 use Rattle.sp_node.specs.Among.{Among}
 use Rattle.sp_node.specs.Look.{look}
-use Rattle.sp_node.specs.Nested.{Body}
-use Rattle.sp_node.specs.Table.{Table, body_at, level_of, nodes_meeting}
+use Rattle.sp_node.specs.Table.{Table, body_at, nodes_meeting}
 use Rattle.sp_node.proofs.Among.{among_left, among_right, among_split}
 use Rattle.sp_node.proofs.Descent.{Spot, IsReady, seen, seen_at}
 use Rattle.sp_granule.specs.declared.meeting.Waiting.{Waiting}
-use Rattle.sp_granule.specs.Granules.{Granule, granules, IsMeeting}
+use Rattle.sp_granule.specs.Granules.{granules, IsMeeting}
 use Rattle.sp_granule.proofs.Covering.{granules_under}
 
 module _ (t : Table) (q : Rectangle) where

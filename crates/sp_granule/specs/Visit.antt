@@ -1,5 +1,5 @@
 -- What a search for granules does at one node.
-use Rattle.std.specs.Prelude.{◌≡◌, ◌⊎◌, ℕ, Bool, true, false, ◌&&◌, List, [], ◌∷◌, ◌++◌, map, filter, reverse, Option, Some, None}
+use Rattle.std.specs.Prelude.{◌≡◌, ◌⊎◌, ℕ, ◌&&◌, List, [], ◌∷◌, ◌++◌, map, filter, reverse, Option, Some, None}
 use Rattle.sp_rect.specs.Plane.{Rectangle, IsRectangle, Point, holds, meets}
 use Rattle.sp_region.specs.Region.{LeavesAny}
 use Rattle.sp_node.specs.declared.node.Child.{Child}

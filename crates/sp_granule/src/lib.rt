@@ -12,3 +12,6 @@ pub use cover::granules_cover_space;
 pub use descent::granule_at;
 pub use meeting::granules_meeting;
 pub use spaces::space;
+
+#[cfg(test)]
+mod tests;

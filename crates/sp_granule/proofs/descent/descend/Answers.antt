@@ -1,6 +1,6 @@
-use Rattle.std.proofs.Common.{◌≡◌, ℕ, ◌∙◌, ap, sym, subst, Some}
+use Rattle.std.proofs.Common.{ℕ, ◌∙◌, ap, sym, subst, Some}
 use Rattle.sp_rect.specs.Plane.{point}
-use Rattle.sp_granule.specs.Descent.{first_child_at, granule_of}
+use Rattle.sp_granule.specs.Descent.{first_child_at}
 use Rattle.sp_granule.proofs.Way.{Leads, leads_start, turn, stays}
 use Rattle.sp_granule.proofs.descent.descend.Goals as goal
 

@@ -3,7 +3,6 @@ use Rattle.sp_node.specs.Look.{look}
 use Rattle.sp_node.specs.Table.{level_of}
 use Rattle.sp_node.proofs.Weight.{weight}
 use Rattle.sp_granule.proofs.Walk.{Walks}
-use Rattle.sp_granule.proofs.Opening.{open_leaf}
 use Rattle.sp_granule.proofs.meeting.granules_meeting.Given as goal
 
 abbrev pub invariant-looking : goal.invariant-looking

@@ -1,4 +1,4 @@
-use Rattle.std.proofs.Common.{◌∙◌, sym, refl}
+use Rattle.std.proofs.Common.{sym, refl}
 use Rattle.sp_granule.proofs.Parts.{push_part}
 use Rattle.sp_granule.proofs.meeting.push_children.Goals as goal
 

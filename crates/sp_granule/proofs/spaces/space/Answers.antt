@@ -1,5 +1,5 @@
-use Rattle.std.proofs.Common.{◌≡◌, ◌∙◌, ℕ, true, Option, Some, None, is_some, ap, sym, subst, arith}
-use Rattle.sp_rect.specs.Plane.{Rectangle, whole}
+use Rattle.std.proofs.Common.{◌≡◌, ◌∙◌, Option, is_some, ap, sym, arith}
+use Rattle.sp_rect.specs.Plane.{Rectangle}
 use Rattle.sp_node.specs.declared.node.Node.{Node}
 use Rattle.sp_granule.specs.Granules.{granules, space_of}
 use Rattle.sp_granule.proofs.Numbered.{root_space, no_space, place_space}
