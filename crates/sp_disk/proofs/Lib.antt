@@ -1,0 +1,4 @@
+mod Holding
+mod Logs
+mod Sampling
+mod Steps

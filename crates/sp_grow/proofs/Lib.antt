@@ -1,0 +1,16 @@
+pub mod Better
+pub mod Descent
+pub mod Picked
+pub mod Divides
+pub mod Same
+pub mod Numbers
+pub mod Sums
+pub mod Counting
+pub mod Fits
+pub mod Parts
+pub mod Settled
+pub mod Steps
+pub mod Spots
+pub mod Turns
+pub mod After
+pub mod Root

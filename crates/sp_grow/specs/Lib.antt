@@ -1,0 +1,5 @@
+pub mod Chosen
+pub mod Members
+pub mod Insertion
+pub mod Grown
+pub mod Below

@@ -1,0 +1,20 @@
+-- Sources and sinks in memory.
+use Rattle.std.specs.Prelude.{ℕ, List, drop}
+use Rattle.sp_io.specs.declared.memory.MemSource.{MemSource}
+use Rattle.sp_io.specs.declared.memory.MemSink.{MemSink}
+
+-- the bytes that are left
+abbrev pub bytes_left : MemSource → List ℕ
+bytes_left s = drop s.at s.bytes.items
+
+-- how often a read has failed
+abbrev pub read_fault_count : MemSource → ℕ
+read_fault_count s = s.faults
+
+-- the bytes that were taken
+abbrev pub bytes_taken : MemSink → List ℕ
+bytes_taken s = s.bytes.items
+
+-- how often a write has failed
+abbrev pub write_fault_count : MemSink → ℕ
+write_fault_count s = s.faults

@@ -1,0 +1,50 @@
+-- How long changes are, and lists of changes that are ones of a journal.
+use Rattle.std.proofs.Common.{◌≡◌, ◌+◌, ◌*◌, ◌<◌, ◌≤◌, ℕ, ℤ, true, List, [], ◌∷◌, ◌++◌, length, take, get_or, IsTrue, refl, sym, ◌∙◌, ap, subst, arith, length-append}
+use Rattle.std.specs.List.{flat_map}
+use Rattle.std.proofs.lemmas.List.{take_more}
+use Rattle.sp_rect.specs.Value.{is_value}
+use Rattle.std.specs.Int.{w32, cast_unsigned}
+use Rattle.sp_rect.specs.Plane.{Rectangle}
+use Rattle.sp_rect.specs.declared.record.Record.{Record}
+use Rattle.sp_plain.specs.declared.change.Change.{Change}
+use Rattle.sp_plain.specs.declared.change.Change.TheVariants.{Put, Drop, Set}
+use Rattle.sp_journal.specs.Format.{u32_bytes, u64_bytes, coordinate_bytes, rect_bytes, value_bytes, put_bytes, drop_bytes, set_bytes, change_bytes, commit_bytes, IsChange, AllChanges, AllCommits, IsCommit}
+use Rattle.sp_journal.proofs.Chunks.{value_short, length-u32, length-u64}
+
+all_push : (changes : List Change) (change : Change) → AllChanges changes → IsChange change → AllChanges (changes ++ change ∷ [])
+all_push [] change all is = (is, tt)
+all_push (first ∷ changes) change all is = (all.0, all_push changes change all.1 is)
+
+pub all_more : (changes : List Change) (i : ℕ) (change : Change) → i < length changes → change ≡ get_or changes i change → AllChanges (take i changes) → IsChange change → AllChanges (take (i + 1) changes)
+all_more changes i change lt at all is = subst AllChanges (sym (take_more changes i change lt ∙ ap (λ d. take i changes ++ d ∷ []) (sym at))) (all_push (take i changes) change all is)
+
+pub commits_push : (commits : List (List Change)) (commit : List Change) → AllCommits commits → IsCommit commit → AllCommits (commits ++ commit ∷ [])
+commits_push [] commit all is = (is, tt)
+commits_push (first ∷ commits) commit all is = (all.0, commits_push commits commit all.1 is)
+
+length-coordinate : (z : ℤ) → length (coordinate_bytes z) ≡ 4
+unfolding coordinate_bytes
+length-coordinate z = length-u32 (cast_unsigned w32 z)
+
+length-rect : (r : Rectangle) → length (rect_bytes r) ≡ 16
+unfolding rect_bytes
+length-rect r =
+    omega (arith, length-append (coordinate_bytes r.x1 ++ coordinate_bytes r.y1 ++ coordinate_bytes r.x2) (coordinate_bytes r.y2), length-append (coordinate_bytes r.x1 ++ coordinate_bytes r.y1) (coordinate_bytes r.x2), length-append (coordinate_bytes r.x1) (coordinate_bytes r.y1), length-coordinate r.x1, length-coordinate r.y1, length-coordinate r.x2, length-coordinate r.y2)
+
+length-value : (v : List ℕ) → IsTrue (is_value v) → length (value_bytes v) ≤ 65
+unfolding value_bytes
+length-value v is = omega (arith, value_short v is)
+
+length-change : (change : Change) → IsChange change → length (change_bytes change) ≤ 90
+unfolding put_bytes drop_bytes set_bytes
+length-change (Put r) is = omega (arith, length-append (u64_bytes r.id ++ rect_bytes r.rect) (value_bytes r.value), length-append (u64_bytes r.id) (rect_bytes r.rect), length-u64 r.id, length-rect r.rect, length-value r.value is.value)
+length-change (Drop id) is = omega (arith, length-u64 id)
+length-change (Set id value) is = omega (arith, length-append (u64_bytes id) (value_bytes value), length-u64 id, length-value value is.1)
+
+length-changes : (changes : List Change) → AllChanges changes → length (flat_map change_bytes changes) ≤ 90 * length changes
+length-changes [] all = omega arith
+length-changes (change ∷ changes) all = omega (arith, length-append (change_bytes change) (flat_map change_bytes changes), length-change change all.0, length-changes changes all.1)
+
+pub length-commit : (changes : List Change) → AllChanges changes → length (commit_bytes changes) ≤ 4 + 90 * length changes
+unfolding commit_bytes
+length-commit changes all = omega (arith, length-append (u32_bytes (length changes)) (flat_map change_bytes changes), length-u32 (length changes), length-changes changes all)

@@ -1,0 +1,7 @@
+mod Bounds
+mod Chunks
+mod Corner
+mod Crashes
+mod Framing
+mod Passing
+mod Turning

@@ -1,0 +1,30 @@
+use Rattle.std.proofs.Common.{inl, length, ap, ◌∙◌, subst, ◌+◌, ℕ, List, ◌∷◌, []}
+use Rattle.sp_disk.specs.Files.{put, Torn}
+use Rattle.sp_journal.specs.Standing.{IsBefore, IsBeforeOrAfter}
+use Rattle.sp_journal.proofs.Passing.{one_call}
+use Rattle.sp_journal.proofs.Turning.{opened_leaves, landed, broken}
+use Rattle.sp_journal.proofs.journal.settle_gate.Goals as goal
+
+pub returns-in-Ok-clause-crash : goal.returns-in-Ok-clause-crash
+returns-in-Ok-clause-crash g c = λ ledger told stands.
+    one_call (g.D.Disk.moment c.args.disk.now) (g.D.Disk.moment c.sync.new.self) (g.D.Disk.images c.args.disk.now) (g.D.Disk.images c.sync.new.self) (IsBeforeOrAfter ledger) c.sync.ensures.time (opened_leaves (g.D.Disk.reads c.args.disk.now) (g.D.Disk.images c.args.disk.now (g.D.Disk.moment c.args.disk.now)) c.args.work.now ledger stands c.requires)
+    (λ file left. opened_leaves (g.D.Disk.reads c.args.disk.now) (g.D.Disk.images c.args.disk.now (g.D.Disk.moment c.args.disk.now)) c.args.work.now ledger stands c.requires file (c.sync.ensures.at_most told file left))
+
+pub returns-in-Err-Fault-clause-crash : goal.returns-in-Err-Fault-clause-crash
+returns-in-Err-Fault-clause-crash g c = λ ledger told stands.
+    one_call (g.D.Disk.moment c.args.disk.now) (g.D.Disk.moment c.sync.new.self) (g.D.Disk.images c.args.disk.now) (g.D.Disk.images c.sync.new.self) (IsBeforeOrAfter ledger) c.sync.ensures.time (opened_leaves (g.D.Disk.reads c.args.disk.now) (g.D.Disk.images c.args.disk.now (g.D.Disk.moment c.args.disk.now)) c.args.work.now ledger stands c.requires)
+    (λ file left. opened_leaves (g.D.Disk.reads c.args.disk.now) (g.D.Disk.images c.args.disk.now (g.D.Disk.moment c.args.disk.now)) c.args.work.now ledger stands c.requires file (c.sync.ensures.at_most told file left))
+
+pub returns-in-Err-Memory-clause-crash : goal.returns-in-Err-Memory-clause-crash
+returns-in-Err-Memory-clause-crash g c = λ ledger told stands.
+    one_call (g.D.Disk.moment c.args.disk.now) (g.D.Disk.moment c.sync.new.self) (g.D.Disk.images c.args.disk.now) (g.D.Disk.images c.sync.new.self) (IsBeforeOrAfter ledger) c.sync.ensures.time (opened_leaves (g.D.Disk.reads c.args.disk.now) (g.D.Disk.images c.args.disk.now (g.D.Disk.moment c.args.disk.now)) c.args.work.now ledger stands c.requires)
+    (λ file left. opened_leaves (g.D.Disk.reads c.args.disk.now) (g.D.Disk.images c.args.disk.now (g.D.Disk.moment c.args.disk.now)) c.args.work.now ledger stands c.requires file (c.sync.ensures.at_most told file left))
+
+pub returns-in-Ok-clause-stands : goal.returns-in-Ok-clause-stands
+returns-in-Ok-clause-stands g c = λ ledger told stands.
+    landed (g.D.Disk.reads c.args.disk.now) (g.D.Disk.images c.args.disk.now (g.D.Disk.moment c.args.disk.now)) c.args.work.now ledger stands c.land.new.self (g.D.Disk.reads c.sync.new.self) (g.D.Disk.images c.sync.new.self (g.D.Disk.moment c.sync.new.self)) c.args.work.now.flying c.requires (c.sync.ensures.bytes told) (c.in-Ok.ensures.settled told) c.land.ensures.flight.0 c.land.ensures.flight.1 (ap (λ v. v.items) c.land.ensures.queued.0) c.land.ensures.queued.1 c.land.ensures.place.0 c.land.ensures.place.1
+
+pub returns-in-Err-Fault-clause-stands : goal.returns-in-Err-Fault-clause-stands
+returns-in-Err-Fault-clause-stands g c = λ ledger told stands.
+    broken (g.D.Disk.reads c.args.disk.now) (g.D.Disk.images c.args.disk.now (g.D.Disk.moment c.args.disk.now)) c.args.work.now ledger stands c.advance.new.self (g.D.Disk.reads c.sync.new.self) (g.D.Disk.images c.sync.new.self (g.D.Disk.moment c.sync.new.self)) c.advance.ensures.same c.advance.ensures.phase
+    (λ file left. (opened_leaves (g.D.Disk.reads c.args.disk.now) (g.D.Disk.images c.args.disk.now (g.D.Disk.moment c.args.disk.now)) c.args.work.now ledger stands c.requires file (c.sync.ensures.at_most told file left)))

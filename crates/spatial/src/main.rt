@@ -1,0 +1,32 @@
+//! The program `spatial`: rectangles with records, under serializable transactions.
+#![tactic(auto)]
+
+mod offline;
+
+use offline::offline;
+use sp_io::{StdSink, StdSource, Words};
+use std::env;
+use std::process::ExitCode;
+
+// The status where there is no memory for the words.
+const NO_MEMORY: u8 = 6;
+
+// The words after the program's name go to `offline`, and its status is the program's. Words that are no
+// text are no command, so none are handed on.
+fn main(rt: HostRuntime) -> ExitCode {
+    let mut words = Words::new(rt.alloc());
+    if let Ok(args) = env::args(&rt) {
+        for word in args.skip(1) {
+            if words.push(word.as_str()).is_err() {
+                return ExitCode::from(NO_MEMORY);
+            }
+        }
+    }
+    let mut source = StdSource::new(rt.stdin());
+    let mut sink = StdSink::new(rt.stdout());
+    let done = offline(rt.alloc(), &words, &mut source, &mut sink);
+    ExitCode::from(done.status)
+}
+
+#[cfg(test)]
+mod tests;
