@@ -235,18 +235,31 @@ once-last (z ∷ xs) r once none x y (inl b) v w = go (in-split y xs (r ∷ []) 
     go (inr (inr n)) = absurd n
 once-last (z ∷ xs) r once none x y (inr b) v w = once-last xs r (λ p q c. once p q (inr c)) (λ p i. none p (inr i)) x y b v w
 
+-- sessions still wait once
+pub once-waiting : (r : Row) (rows : List Row) → r.waiting ≡ true → waiting_in r.session rows ≡ None → WaitOnce rows → WaitOnce (with_row_on r rows)
+once-waiting r rows w awake once = once-by_name (with_row_on r rows) (by-row WaitOnce r rows (λ n. once-on n rows once) (subst WaitOnce (as_last r (rows_on r.name rows) w) (once-last (rows_on r.name rows) r (once-on r.name rows once) none))) one
+  where
+    none : NoWaiter r.session (rows_on r.name rows)
+    none x i v = no_waiter r.session rows awake x (in-table r.name x rows i).0 v
+
+    one : (x y : Row) → In x (with_row_on r rows) → In y (with_row_on r rows) → x.waiting ≡ true → y.waiting ≡ true → x.session ≡ y.session → x.name ≡ y.name
+    one x y i j u v same = go (waiting-stood r rows w x i) (waiting-stood r rows w y j)
+      where
+        go : In x rows ⊎ (r ≡ x) → In y rows ⊎ (r ≡ y) → x.name ≡ y.name
+        go (inl k) (inl l) = ap (λ (q : Row). q.name) (one_name rows once x y k l u v same)
+        go (inl k) (inr e) = absurd (no_waiter r.session rows awake x k u (same ∙ ap (λ (q : Row). q.session) (sym e)))
+        go (inr e) (inl l) = absurd (no_waiter r.session rows awake y l v (sym same ∙ ap (λ (q : Row). q.session) (sym e)))
+        go (inr e) (inr f) = ap (λ (q : Row). q.name) (sym e ∙ f)
+
 pub wait-sound : (r : Row) (rows : List Row) → r.waiting ≡ true → waiting_in r.session rows ≡ None → is_blocked (rows_on r.name rows) [] r.session r.mode ≡ true → IsSound rows → IsSound (with_row_on r rows)
 wait-sound r rows w awake stuck sound = record {
   compatible = by-row HeldCompatible r rows sound.compatible (subst HeldCompatible (as_last r on w) together);
   blocked = by-row WaitersBlocked r rows sound.blocked (subst WaitersBlocked (as_last r on w) (of_blocked [] (on ++ r ∷ []) (blocked-last on r w stuck (to_blocked [] on (sound.blocked r.name)))));
-  once = once-by_name (with_row_on r rows) (by-row WaitOnce r rows (λ n. once-on n rows sound.once) (subst WaitOnce (as_last r on w) (once-last on r (once-on r.name rows sound.once) none))) one;
+  once = once-waiting r rows w awake sound.once;
 }
   where
     on : List Row
     on = rows_on r.name rows
-
-    none : NoWaiter r.session on
-    none x i v = no_waiter r.session rows awake x (in-table r.name x rows i).0 v
 
     together : HeldCompatible (on ++ r ∷ [])
     together a b i j u v other = sound.compatible r.name a b (old a i u) (old b j v) u v other
@@ -258,15 +271,6 @@ wait-sound r rows w awake stuck sound = record {
             go (inl l) = l
             go (inr (inl e)) = absurd (true≢false (sym w ∙ ap (λ (q : Row). q.waiting) e ∙ h))
             go (inr (inr n)) = absurd n
-
-    one : (x y : Row) → In x (with_row_on r rows) → In y (with_row_on r rows) → x.waiting ≡ true → y.waiting ≡ true → x.session ≡ y.session → x.name ≡ y.name
-    one x y i j u v same = go (waiting-stood r rows w x i) (waiting-stood r rows w y j)
-      where
-        go : In x rows ⊎ (r ≡ x) → In y rows ⊎ (r ≡ y) → x.name ≡ y.name
-        go (inl k) (inl l) = ap (λ (q : Row). q.name) (one_name rows sound.once x y k l u v same)
-        go (inl k) (inr e) = absurd (no_waiter r.session rows awake x k u (same ∙ ap (λ (q : Row). q.session) (sym e)))
-        go (inr e) (inl l) = absurd (no_waiter r.session rows awake y l v (sym same ∙ ap (λ (q : Row). q.session) (sym e)))
-        go (inr e) (inr f) = ap (λ (q : Row). q.name) (sym e ∙ f)
 
 pub wait-waits : (r : Row) (rows : List Row) → r.waiting ≡ true → WaitOnce (with_row_on r rows) → waiting_in r.session (with_row_on r rows) ≡ Some r
 wait-waits r rows w once = found-one r.session (with_row_on r rows) r once (waiting-stays r rows w r (inr refl)) (both r.waiting (nat_eq r.session r.session) w (numbers-tell r.session r.session refl))
