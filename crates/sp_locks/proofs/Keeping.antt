@@ -213,7 +213,7 @@ waiting-stood r rows w x i = go (same_name x.name r.name) refl (in-name x (with_
         last (in-split x (rows_on r.name rows) (r ∷ []) (subst (In x) (with_row-on r rows ∙ sym (as_last r (rows_on r.name rows) w)) (subst (λ (m : Name). In x (rows_on m (with_row_on r rows))) (same_is x.name r.name e) j)))
     go false e j = inl (in-table x.name x rows (subst (In x) (with_row-off x.name r rows e) j)).0
 
-waiting-stays : (r : Row) (rows : List Row) → r.waiting ≡ true → (x : Row) → In x rows ⊎ (r ≡ x) → In x (with_row_on r rows)
+pub waiting-stays : (r : Row) (rows : List Row) → r.waiting ≡ true → (x : Row) → In x rows ⊎ (r ≡ x) → In x (with_row_on r rows)
 waiting-stays r rows w x i = go (same_name x.name r.name) refl i
   where
     on-name : In x (rows_on r.name rows ++ r ∷ []) → In x (with_row_on r rows)
