@@ -12,11 +12,11 @@ use Rattle.sp_rect.specs.declared.operation.Reply.{Reply}
 use Rattle.sp_rect.specs.declared.operation.Reply.TheVariants.{Done, Exists, Absent, Rec, Found, Count}
 use Rattle.sp_rect.specs.declared.operation.Answered.{Answered}
 use Rattle.sp_rect.specs.declared.commit.Commit.{Commit}
-use Rattle.sp_audit.specs.declared.edge.Mode.{Mode}
-use Rattle.sp_audit.specs.declared.edge.Mode.TheVariants.{IS, IX, S, SIX, X}
-use Rattle.sp_audit.specs.declared.edge.Name.{Name}
-use Rattle.sp_audit.specs.declared.edge.Name.TheVariants.{Granule, Object}
-use Rattle.sp_audit.specs.declared.edge.Edge.{Edge}
+use Rattle.sp_locks.specs.declared.mode.Mode.{Mode}
+use Rattle.sp_locks.specs.declared.mode.Mode.TheVariants.{IS, IX, S, SIX, X}
+use Rattle.sp_locks.specs.declared.row.Name.{Name}
+use Rattle.sp_locks.specs.declared.row.Name.TheVariants.{Granule, Object}
+use Rattle.sp_waits.specs.declared.edge.Edge.{Edge}
 use Rattle.sp_audit.specs.declared.ended.Ended.{Ended}
 use Rattle.sp_audit.specs.History.{History}
 

@@ -1,6 +1,6 @@
 // Transactions that a deadlock ended.
-use crate::edge::Cycle;
 use sp_list::{Duplicate, Sequence};
+use sp_waits::Cycle;
 use std::alloc::{AllocError, Global};
 
 /// A transaction that was ended, since its wait would have closed a cycle.

@@ -4,11 +4,12 @@ ghost use Rattle.serde_json.specs.Data.{Data, string};
 ghost use Rattle.serde_json.specs.View.{view};
 ghost use Rattle.sp_audit.specs.Line.{listed, record_told, op_told, reply_told, pair_told, commit_told, edge_told, ended_told, mode_word, kind_word, number_of_name};
 
-use crate::edge::{Edge, Mode, Name};
 use crate::ended::Ended;
 use crate::row::Row;
 use serde_json::{Value, json};
+use sp_locks::{Mode, Name};
 use sp_rect::{Answered, Commit, Op, Record, Reply};
+use sp_waits::Edge;
 use std::alloc::{AllocError, Global};
 
 // What has a JSON value.

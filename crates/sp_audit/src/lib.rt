@@ -3,7 +3,6 @@
 #![tactic(auto)]
 
 mod audit;
-mod edge;
 mod ended;
 mod json;
 mod laws;
@@ -11,11 +10,11 @@ mod output;
 mod row;
 
 pub use audit::Audit;
-pub use edge::{Cycle, Edge, Mode, Name};
 pub use ended::{Ended, Endings};
 pub use laws::next_commit_is_serial;
 pub use output::dump;
 pub use sp_rect::{Commit, Commits};
+pub use sp_waits::{Cycle, Edge};
 
 #[cfg(test)]
 mod tests;

@@ -1,6 +1,7 @@
 // The text of an audit against lines written by hand.
 use crate::json::ToJson;
-use crate::{Audit, Cycle, Edge, Ended, Mode, Name, dump};
+use crate::{Audit, Cycle, Edge, Ended, dump};
+use sp_locks::{Mode, Name};
 use sp_plain::Plain;
 use sp_rect::{Answered, Commit, Duplicate, Op, Pairs, Record, Records, Rect, Reply, Value, WHOLE};
 use std::alloc::Global;
