@@ -1,22 +1,20 @@
 -- The edge between two sessions, in the table with one more wait.
-use Rattle.std.proofs.Common.{◌≡◌, ◌≢◌, ◌⊎◌, ℕ, Bool, true, false, not, ◌&&◌, ◌||◌, if◌then◌else◌, nat_eq, List, [], ◌∷◌, ◌++◌, Option, None, Some, refl, sym, ap, ◌∙◌, subst, inl, inr, true≢false, arith}
+use Rattle.std.proofs.Common.{◌≡◌, ◌≢◌, ◌⊎◌, ℕ, Bool, true, false, not, ◌&&◌, if◌then◌else◌, nat_eq, List, [], ◌∷◌, ◌++◌, Option, None, Some, refl, sym, ap, ◌∙◌, subst, inl, inr, true≢false, arith}
 use Rattle.std.specs.Prelude.{unwrap_or}
-use Rattle.std.specs.List.{list_any}
 use Rattle.sp_locks.specs.declared.mode.Mode.{Mode}
 use Rattle.sp_locks.specs.declared.row.Name.{Name}
 use Rattle.sp_locks.specs.declared.row.Row.{Row}
 use Rattle.sp_locks.specs.declared.row.Duration.TheVariants.{Commit}
 use Rattle.sp_locks.specs.Modes.{compatible}
 use Rattle.sp_locks.specs.Rows.{same_name, is_held_by, is_waiter, stops, holds_in, join_onto, held_in, waiting_in}
-use Rattle.sp_locks.specs.Table.{is_on, rows_on, held, row_of, with_row_on}
+use Rattle.sp_locks.specs.Table.{rows_on, held, row_of, with_row_on}
 use Rattle.sp_locks.specs.Soundness.{In, WaitOnce, IsSound}
 use Rattle.sp_locks.specs.Blocking.{is_compatible_with}
 use Rattle.sp_locks.proofs.Names.{same_is}
-use Rattle.sp_locks.proofs.Members.{numbers-same, numbers-tell, both, in-left}
+use Rattle.sp_locks.proofs.Members.{numbers-same, numbers-tell, both}
 use Rattle.sp_locks.proofs.OnNames.{with_row-off}
 use Rattle.sp_locks.proofs.Keeping.{in-table, in-name, once-on, once-waiting, waiting-stays, found-one, wait-waits, wait-others}
 use Rattle.sp_locks.proofs.Blocking.{held-against}
-use Rattle.sp_waits.specs.declared.edge.Edge.{Edge}
 use Rattle.sp_waits.specs.Edges.{member, stopping, stopped_by, of_row, waits_of, once_waiting}
 use Rattle.sp_waits.specs.Search.{waits_for}
 use Rattle.sp_waits.specs.Cycles.{blocking_mode, IsEdge}

@@ -1,12 +1,12 @@
 -- The nodes of the sessions that wait.
-use Rattle.std.proofs.Common.{◌≡◌, ◌≢◌, ℕ, Bool, true, false, ◌||◌, if◌then◌else◌, nat_eq, List, [], ◌∷◌, ◌++◌, map, Option, None, Some, is_some, refl, sym, ap, ◌∙◌, subst, inl, inr, true≢false, arith}
+use Rattle.std.proofs.Common.{◌≡◌, ℕ, Bool, true, false, ◌||◌, if◌then◌else◌, nat_eq, List, [], ◌∷◌, ◌++◌, map, Option, None, Some, is_some, refl, sym, ap, ◌∙◌, subst, inl, inr, true≢false, arith}
 use Rattle.sp_locks.specs.declared.mode.Mode.{Mode}
 use Rattle.sp_locks.specs.declared.row.Name.{Name}
 use Rattle.sp_locks.specs.declared.row.Row.{Row}
 use Rattle.sp_locks.specs.Rows.{waiting_in}
 use Rattle.sp_locks.proofs.Members.{numbers-same, numbers-tell}
 use Rattle.sp_waits.specs.declared.graph.Node.{Node}
-use Rattle.sp_waits.specs.Edges.{member, of_row, waits_of}
+use Rattle.sp_waits.specs.Edges.{member, of_row}
 use Rattle.sp_waits.specs.Search.{waits_for}
 use Rattle.sp_waits.specs.Levels.{edges_of, In_graph, IsGraph}
 

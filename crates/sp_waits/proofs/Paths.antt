@@ -1,5 +1,5 @@
 -- The way that is found is a shortest one, and of those the least.
-use Rattle.std.proofs.Common.{◌≡◌, ◌≢◌, ◌⊎◌, ℕ, ◌+◌, ◌<◌, ◌≤◌, zero, suc, Bool, true, false, not, ◌&&◌, ◌||◌, if◌then◌else◌, nat_eq, nat_lt, List, [], ◌∷◌, ◌++◌, length, map, Option, None, Some, refl, sym, ap, ◌∙◌, subst, inl, inr, true≢false, arith}
+use Rattle.std.proofs.Common.{◌≡◌, ◌≢◌, ◌⊎◌, ℕ, ◌<◌, ◌≤◌, zero, suc, Bool, true, false, ◌||◌, if◌then◌else◌, nat_eq, nat_lt, List, [], ◌∷◌, ◌++◌, length, map, Option, None, Some, refl, sym, ap, ◌∙◌, subst, inl, inr, true≢false, arith}
 use Rattle.std.specs.Prelude.{unwrap_or}
 use Rattle.std.specs.List.{list_any}
 use Rattle.std.proofs.lemmas.Bool.Decides.{nat_tests}
@@ -9,10 +9,10 @@ use Rattle.sp_waits.specs.declared.graph.Node.{Node}
 use Rattle.sp_waits.specs.declared.levels.Step.{Step}
 use Rattle.sp_waits.specs.declared.edge.Edge.{Edge}
 use Rattle.sp_waits.specs.Edges.{member, waits_of, Chain, Link, Then}
-use Rattle.sp_waits.specs.Cycles.{IsEdge, Leads, IsLoop, starts, NoGreater, IsLeastCycle}
-use Rattle.sp_waits.specs.Levels.{edges_of, is_at, leads_to, lesser, least, next_at, path_of, Goes, IsGraph, AreLevels}
+use Rattle.sp_waits.specs.Cycles.{Leads, IsLoop, starts, NoGreater, IsLeastCycle}
+use Rattle.sp_waits.specs.Levels.{edges_of, is_at, leads_to, lesser, least, next_at, path_of, Goes, AreLevels}
 use Rattle.sp_waits.specs.Ways.{IsWay, AreEdges}
-use Rattle.sp_waits.proofs.Levelling.{or-cases, or-left, or-right, below-or, le-or, leads-one, one-leads}
+use Rattle.sp_waits.proofs.Levelling.{or-cases, or-left, or-right, below-or, le-or, one-leads}
 
 -- where a way ends
 abbrev pub end_of : ℕ → List ℕ → ℕ

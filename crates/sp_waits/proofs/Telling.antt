@@ -1,5 +1,5 @@
 -- The cycle that is told, from what the search found.
-use Rattle.std.proofs.Common.{◌≡◌, ℕ, ◌+◌, ◌≤◌, suc, true, List, [], ◌∷◌, Option, None, Some, refl, sym, ap, ◌∙◌, subst, arith}
+use Rattle.std.proofs.Common.{◌≡◌, ℕ, ◌+◌, suc, List, None, Some, sym, ap, ◌∙◌, subst, arith}
 use Rattle.sp_locks.specs.declared.mode.Mode.{Mode}
 use Rattle.sp_locks.specs.declared.row.Name.{Name}
 use Rattle.sp_locks.specs.declared.row.Row.{Row}
@@ -8,7 +8,7 @@ use Rattle.sp_locks.specs.Soundness.{IsSound}
 use Rattle.sp_waits.specs.declared.graph.Node.{Node}
 use Rattle.sp_waits.specs.declared.levels.Levels.{Levels}
 use Rattle.sp_waits.specs.declared.edge.Edge.{Edge}
-use Rattle.sp_waits.specs.Edges.{member, waits_of, once_waiting, Chain}
+use Rattle.sp_waits.specs.Edges.{waits_of, once_waiting, Chain}
 use Rattle.sp_waits.specs.Search.{waits_for}
 use Rattle.sp_waits.specs.Levels.{edges_of, path_of}
 use Rattle.sp_waits.specs.Levelled.{IsSearched}

@@ -1,6 +1,5 @@
 -- The table with one more wait: who waits for whom there.
-use Rattle.std.proofs.Common.{◌≡◌, ◌≢◌, ℕ, Bool, true, false, not, ◌&&◌, ◌||◌, if◌then◌else◌, nat_eq, List, [], ◌∷◌, ◌++◌, Option, None, Some, refl, sym, ap, ◌∙◌, subst, inl, inr, true≢false, arith}
-use Rattle.std.specs.List.{list_any}
+use Rattle.std.proofs.Common.{◌≡◌, ◌≢◌, ℕ, Bool, true, false, not, ◌&&◌, ◌||◌, if◌then◌else◌, nat_eq, List, [], ◌∷◌, ◌++◌, Option, None, Some, refl, sym, ap, ◌∙◌, subst, true≢false, arith}
 use Rattle.sp_locks.specs.declared.mode.Mode.{Mode}
 use Rattle.sp_locks.specs.declared.row.Name.{Name}
 use Rattle.sp_locks.specs.declared.row.Row.{Row}
@@ -9,7 +8,7 @@ use Rattle.sp_locks.specs.Modes.{compatible}
 use Rattle.sp_locks.specs.Rows.{same_name, is_held_by, is_waiter, stops, holds_in, waiting_in}
 use Rattle.sp_locks.specs.Table.{rows_on, row_of, with_row_on}
 use Rattle.sp_locks.specs.Soundness.{In, WaitOnce, IsSound}
-use Rattle.sp_locks.proofs.Names.{same_is, same-refl}
+use Rattle.sp_locks.proofs.Names.{same_is}
 use Rattle.sp_locks.proofs.Members.{numbers-same, numbers-tell, numbers-apart, any-append}
 use Rattle.sp_locks.proofs.OnNames.{with_row-on, with_row-off}
 use Rattle.sp_locks.proofs.Keeping.{found-waits, none-waits, in-name, once-waiting, wait-waits, wait-others}

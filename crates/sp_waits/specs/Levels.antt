@@ -1,5 +1,5 @@
 -- How many steps each session is from the one that is to wait, level by level.
-use Rattle.std.specs.Prelude.{◌≡◌, ◌⊎◌, ℕ, zero, suc, ◌+◌, ◌≤◌, ◌<◌, Bool, true, false, ◌&&◌, not, nat_eq, nat_lt, if◌then◌else◌, List, [], ◌∷◌, map, filter, length, Option, None, Some, unwrap_or}
+use Rattle.std.specs.Prelude.{◌≡◌, ◌⊎◌, ℕ, zero, suc, ◌+◌, ◌≤◌, ◌<◌, Bool, true, ◌&&◌, not, nat_eq, nat_lt, if◌then◌else◌, List, [], ◌∷◌, map, filter, Option, None, Some, unwrap_or}
 use Rattle.std.specs.List.{list_any}
 use Rattle.sp_waits.specs.declared.graph.Node.{Node}
 use Rattle.sp_waits.specs.declared.levels.Step.{Step}

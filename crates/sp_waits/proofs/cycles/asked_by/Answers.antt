@@ -1,4 +1,4 @@
-use Rattle.std.proofs.Common.{◌∙◌, sym, rules}
+use Rattle.std.proofs.Common.{rules}
 use Rattle.sp_waits.proofs.Edging.{asks-own, asks-other, asks-none}
 use Rattle.sp_waits.proofs.cycles.asked_by.Goals as goal
 

@@ -3,7 +3,7 @@ use Rattle.sp_waits.specs.declared.graph.Node.{Node}
 use Rattle.sp_waits.specs.declared.levels.Levels.{Levels}
 use Rattle.sp_waits.specs.Edges.{waits_of, once_waiting}
 use Rattle.sp_waits.specs.Search.{waits_for}
-use Rattle.sp_waits.specs.Levels.{edges_of, path_of}
+use Rattle.sp_waits.specs.Levels.{path_of}
 use Rattle.sp_waits.specs.Levelled.{IsSearched}
 use Rattle.sp_waits.specs.Ways.{IsWay, AreEdges}
 use Rattle.sp_waits.proofs.Telling.{same-edges, found-way, found-cycle, found-none}

@@ -1,5 +1,4 @@
-use Rattle.std.proofs.Common.{◌≡◌, ◌++◌, ℕ, drop, map}
-use Rattle.sp_waits.specs.declared.graph.Node.{Node}
+use Rattle.std.proofs.Common.{◌≡◌, ◌++◌, drop, map}
 use Rattle.sp_waits.specs.Search.{waits_for}
 use Rattle.sp_waits.proofs.Graphs.{node}
 use Rattle.sp_waits.proofs.graph.nodes.Given as goal

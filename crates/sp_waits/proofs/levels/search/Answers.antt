@@ -1,5 +1,5 @@
-use Rattle.std.proofs.Common.{◌≡◌, ◌≢◌, ℕ, ◌+◌, ◌≤◌, ◌<◌, suc, Bool, true, false, not, nat_eq, true≢false, List, [], ◌∷◌, ◌++◌, length, sym, ap, ◌∙◌, subst, arith, rules}
-use Rattle.sp_locks.proofs.Members.{numbers-same, numbers-tell}
+use Rattle.std.proofs.Common.{◌≡◌, ℕ, ◌+◌, ◌≤◌, ◌<◌, Bool, false, nat_eq, true≢false, List, [], ◌∷◌, ◌++◌, length, sym, ap, ◌∙◌, subst, arith, rules}
+use Rattle.sp_locks.proofs.Members.{numbers-tell}
 use Rattle.sp_waits.specs.declared.graph.Node.{Node}
 use Rattle.sp_waits.specs.declared.levels.Step.{Step}
 use Rattle.sp_waits.specs.Levels.{edges_of, leads_to, level, IsGraph, AreLevels}

@@ -1,5 +1,4 @@
 use Rattle.std.proofs.Common.{◌≡◌, ℕ, List, sym, subst}
-use Rattle.sp_locks.specs.Soundness.{IsSound}
 use Rattle.sp_waits.specs.Edges.{waits_of, once_waiting, Chain}
 use Rattle.sp_waits.specs.Search.{waits_for}
 use Rattle.sp_waits.proofs.Waiting.{waits-are}
