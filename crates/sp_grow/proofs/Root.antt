@@ -1,5 +1,5 @@
 -- The root after an insertion.
-use Rattle.std.proofs.Common.{◌≡◌, ℕ, zero, suc, ◌+◌, ◌*◌, ◌<◌, ◌≤◌, ◌⊎◌, inl, inr, false, List, [], ◌∷◌, ◌++◌, length, map, Option, Some, None, refl, sym, ap, ◌∙◌, subst, arith}
+use Rattle.std.proofs.Common.{◌≡◌, ℕ, zero, suc, ◌+◌, ◌*◌, ◌^◌, ◌<◌, ◌≤◌, ◌⊎◌, inl, inr, false, List, [], ◌∷◌, ◌++◌, length, map, Option, Some, None, refl, sym, ap, ◌∙◌, subst, arith}
 use Rattle.std.specs.Prelude.{nat_eq, MatchOption}
 use Rattle.std.specs.List.{AllByRecursion, IsDistinct, sum_by}
 use Rattle.std.specs.List.Sorted.{IsPermutation}
@@ -45,7 +45,7 @@ pub record IsDone (t : Table) (e : Entry) (plan : Plan) : Type 0 where
   pub grown : IsGrown t e (planned t plan)
   pub few : length plan.parts ≤ 2 * (level_of t + 1) + 1
 
-module _ (t : Table) (v : IsValid t) (rising : IsAscending t.nodes) (e : Entry) (fresh : leaf_with t.nodes e.number ≡ None) (space : IsRectangle e.rect) where
+module _ (t : Table) (v : IsValid t) (rising : IsAscending t.nodes) (e : Entry) (fresh : leaf_with t.nodes e.number ≡ None) (space : IsRectangle e.rect) (numbers_free : t.next < 2 ^ 63 + 2 ^ 32) where
   -- the entries have not the number
   no_entry : HasNoEntry t e.number
   no_entry = subst (λ (o : Option ℕ). MatchOption o (HasNoEntry t e.number) (IsLeafOf t e.number)) fresh (leaf_stands t v e.number)
@@ -117,7 +117,7 @@ module _ (t : Table) (v : IsValid t) (rising : IsAscending t.nodes) (e : Entry) 
     counted = grows_numbers t.shape v.shape (level_of t) t.root t.next (body_at (look t.nodes) (level_of t) t.root) e outcome draft.next g.grows
 
     fits : Fits t.shape v.shape (level_of t) (length (body_at (look t.nodes) (level_of t) t.root)) outcome
-    fits = grows_fits t.shape v.shape (level_of t) t.root t.next (body_at (look t.nodes) (level_of t) t.root) e outcome draft.next g.grows v.sound (root_spot t v).most
+    fits = grows_fits t.shape v.shape (level_of t) t.root t.next (body_at (look t.nodes) (level_of t) t.root) e outcome draft.next g.grows v.sound (root_spot t v numbers_free).most
 
     entry_sums : (w : Entry → ℕ) → sum_by w (entries_left (level_of t) outcome) ≡ sum_by w (entries_of t) + w e
     entry_sums w = grows_entries t.shape v.shape w (level_of t) t.root t.next (body_at (look t.nodes) (level_of t) t.root) e outcome draft.next g.grows
@@ -177,14 +177,14 @@ module _ (t : Table) (v : IsValid t) (rising : IsAscending t.nodes) (e : Entry) 
     after = look (with_parts t.nodes raised.parts)
 
     off : listed draft.parts draft.next ≡ false
-    off = next_off t (own t v rising) v.shape (own_low t v rising) (root_spot t v).fresh draft g.changes
+    off = next_off t (own t v rising) v.shape (own_low t v rising) (root_spot t v numbers_free).fresh draft g.changes
 
     nothing : (o : Option Node) → o ≡ None → o ≡ Some halves → ⊥
     nothing o x y = cc
 
     more : AreChanges t (own t v rising) raised
     more =
-        put_changes t (own t v rising) draft g.changes draft.next halves (draft.next + 1) (omega arith) (inr (g.changes.onward, omega arith)) off (λ x. nothing (look t.nodes draft.next) ((root_spot t v).fresh draft.next g.changes.onward) x) (λ j ge lt. omega arith)
+        put_changes t (own t v rising) draft g.changes draft.next halves (draft.next + 1) (omega arith) (inr (g.changes.onward, omega arith)) off (λ x. nothing (look t.nodes draft.next) ((root_spot t v numbers_free).fresh draft.next g.changes.onward) x) (λ j ge lt. omega arith)
 
     low : AllByRecursion (λ n. n < draft.next) (numbers_left (level_of t) (outcome_at before (level_of t) (Two a b)))
     low = let c = counted (Two a b) draft g in then_low t v rising draft g.changes c.count c.is (numbers_left (level_of t) (outcome_at before (level_of t) (Two a b))) c.sums

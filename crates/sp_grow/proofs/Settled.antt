@@ -120,6 +120,10 @@ module _ (t : Table) (ns : List ℕ) (shape : IsShape t.shape) (low : AllByRecur
     settled_few (Two a b) after s =
         omega (arith, ap (λ (ps : List Part). length ps) s.8, length_put draft.parts (Now number (pick_node n s.0)), length_put (put_part draft.parts (Now number (pick_node n s.0))) (Now draft.next (pick_node n s.1)))
 
+    pub settled_next : (left : Left) (after : Draft) → IsSettled t.shape draft number n left after → after.next ≤ draft.next + 1
+    settled_next (One a) after s = omega (arith, s.4)
+    settled_next (Two a b) after s = omega (arith, s.9)
+
     -- what stands under the numbers then
     abbrev then : Draft → ℕ → Option Node
     then d q = look (with_parts t.nodes d.parts) q

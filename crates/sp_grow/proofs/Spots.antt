@@ -1,16 +1,20 @@
 -- The nodes of a valid tree, from the root down.
-use Rattle.std.proofs.Common.{◌≡◌, ℕ, zero, suc, ◌<◌, ◌≤◌, List, [], ◌∷◌, ◌++◌, length, Option, Some, inl, inr, false, subst, arith}
+use Rattle.std.proofs.Common.{◌≡◌, ℕ, zero, suc, ◌+◌, ◌*◌, ◌^◌, ◌<◌, ◌≤◌, List, [], ◌∷◌, ◌++◌, length, Option, Some, inl, inr, false, subst, arith}
 use Rattle.std.specs.Prelude.{nat_eq}
 use Rattle.std.specs.List.{AllByRecursion, IsDistinct, flat_map}
+use Rattle.std.proofs.lemmas.List.{length-append}
+use Rattle.sp_split.proofs.Members.{among_all}
+use Rattle.std.proofs.lemmas.Map.Steps.{length-le_from_distinct_below}
 use Rattle.std.proofs.lemmas.Map.Keys.{IsDistinct-head, IsDistinct-tail, IsDistinct-cons, IsDistinct-from_apart}
 use Rattle.sp_rect.specs.Plane.{whole}
 use Rattle.sp_node.specs.declared.node.Child.{Child}
 use Rattle.sp_node.specs.declared.node.Entry.{Entry}
 use Rattle.sp_node.specs.declared.node.Node.{Node}
 use Rattle.sp_node.specs.declared.node.Node.TheVariants.{Inner}
-use Rattle.sp_node.specs.Nested.{Place, IsRootSize}
+use Rattle.sp_node.specs.declared.node.Shape.{Shape}
+use Rattle.sp_node.specs.Nested.{Body, Branch, Place, AreSound, IsRootSize}
 use Rattle.sp_node.specs.Look.{look}
-use Rattle.sp_node.specs.Table.{Table, body_at, Stands, children_in, level_of, IsValid, places_of}
+use Rattle.sp_node.specs.Table.{Table, body_at, Stands, children_in, level_of, IsValid, IsShape, places_of}
 use Rattle.sp_node.proofs.Lists.{all_unmap}
 use Rattle.sp_node.proofs.ByNumber.{node_of_number}
 use Rattle.sp_node.specs.Among.{Among}
@@ -25,8 +29,42 @@ distinct_front : (xs ys : List ℕ) → IsDistinct nat_eq (xs ++ ys) → IsDisti
 distinct_front [] ys d = IsDistinct-from_apart nat_eq [] (λ i j e lt len. absurd (omega arith))
 distinct_front (x ∷ xs) ys d = IsDistinct-cons nat_eq x xs (all_front (λ y. nat_eq x y ≡ false) xs ys (IsDistinct-head nat_eq x (xs ++ ys) d)) (distinct_front xs ys (IsDistinct-tail nat_eq x (xs ++ ys) d))
 
-pub root_spot : (t : Table) → IsValid t → IsSpot t (level_of t) t.root
-root_spot t v = record {
+-- a sound node has more than twice as many nodes below it as levels
+many : (shape : Shape) → IsShape shape → (level number : ℕ) (body : Body level) → AreSound shape level body → (0 < level → 2 ≤ length body) → 2 * level + 1 ≤ length (numbers level number body)
+many shape v zero number es sound two = omega arith
+many shape v (suc level) number branches sound two = by_list branches sound (two (omega arith)) (λ b h. many shape v level b.number b.body h.3 (each b h))
+  where
+    each : (b : Branch (Body level)) → IsChild shape v level b → (0 < level → 2 ≤ length b.body)
+    each b h lt = let least : 2 ≤ shape.min = v.least in omega (arith, h.1)
+
+    some : (level number : ℕ) (body : Body level) → 1 ≤ length (numbers level number body)
+    some zero number body = omega arith
+    some (suc level) number body = omega arith
+
+    by_list : (bs : List (Branch (Body level))) → AllByRecursion (IsChild shape v level) bs → 2 ≤ length bs → ((b : Branch (Body level)) → IsChild shape v level b → 2 * level + 1 ≤ length (numbers level b.number b.body)) → 2 * suc level + 1 ≤ length (number ∷ flat_map (λ b. numbers level b.number b.body) bs)
+    by_list [] h lt more = absurd (omega arith)
+    by_list (x ∷ []) h lt more = absurd (omega arith)
+    by_list (x ∷ y ∷ bs) h lt more =
+        let f : Branch (Body level) → List ℕ = λ b. numbers level b.number b.body in
+        let m = more x h.0 in
+        omega (arith, m, some level y.number y.body, length-append (f x) (f y ++ flat_map f bs), length-append (f y) (flat_map f bs))
+
+-- the numbers of a tree are below its next
+pub level_small : (t : Table) → IsValid t → 2 * level_of t + 1 ≤ t.next
+level_small t v =
+    let ns = numbers (level_of t) t.root (body_at (look t.nodes) (level_of t) t.root) in
+    let same = numbers_places (level_of t) t.root whole (body_at (look t.nodes) (level_of t) t.root) in
+    let low = subst (AllByRecursion (λ n. n < t.next)) same v.below_next in
+    let distinct = subst (IsDistinct nat_eq) same v.distinct in
+    let size : length ns ≤ t.next = length-le_from_distinct_below ns t.next distinct (λ q h. among_all (λ n. n < t.next) ns q low h) in
+    omega (arith, size, many t.shape v.shape (level_of t) t.root (body_at (look t.nodes) (level_of t) t.root) v.sound (two (level_of t) v.root_size))
+  where
+    two : (level : ℕ) → IsRootSize t.shape level (length (body_at (look t.nodes) level t.root)) → 0 < level → 2 ≤ length (body_at (look t.nodes) level t.root)
+    two zero s lt = absurd (omega arith)
+    two (suc level) s lt = s.0
+
+pub root_spot : (t : Table) → IsValid t → t.next < 2 ^ 63 + 2 ^ 32 → IsSpot t (level_of t) t.root
+root_spot t v numbers_left = record {
   shape = v.shape;
   stands = v.stands;
   some = some_of (level_of t) v.root_size;
@@ -36,6 +74,7 @@ root_spot t v = record {
   distinct = subst (IsDistinct nat_eq) (numbers_places (level_of t) t.root whole (body_at (look t.nodes) (level_of t) t.root)) v.distinct;
   below_next = subst (AllByRecursion (λ n. n < t.next)) (numbers_places (level_of t) t.root whole (body_at (look t.nodes) (level_of t) t.root)) v.below_next;
   fresh = λ k le. elim (node_of_number t v k) [ inl p ↦ absurd (used k p.0 p.1 p.2 le) | inr n ↦ n.1 ];
+  room = let l = level_small t v in omega (arith, l, numbers_left);
 }
   where
     used : (k : ℕ) (p : Place) → Among p (places_of t) → p.number ≡ k → t.next ≤ k → ⊥
@@ -74,4 +113,5 @@ module _ (t : Table) (level number : ℕ) (front : List Child) (c : Child) (back
         distinct = distinct_front (under c) (flat_map under back) (distinct_back (flat_map under front) (under c ++ flat_map under back) (rest_distinct t e level number front c back is spot));
         below_next = all_front (λ n. n < t.next) (under c) (flat_map under back) (all_back (λ n. n < t.next) (flat_map under front) (under c ++ flat_map under back) (all_own t e level number front c back is spot).1);
         fresh = spot.fresh;
+        room = spot.room;
       }

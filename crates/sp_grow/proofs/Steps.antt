@@ -38,7 +38,7 @@ use Rattle.sp_grow.proofs.Numbers.{numbers_left, among_from_all, all_front, all_
 use Rattle.sp_grow.proofs.Counting.{new_numbers, new_within, Counted, grows_numbers, all_pick}
 use Rattle.sp_grow.proofs.Divides.{size}
 use Rattle.sp_grow.proofs.Parts.{off_parts, look_unlisted}
-use Rattle.sp_grow.proofs.Settled.{map-pick, settled_changes, settled_few, look_rest, settles_at, stands_at}
+use Rattle.sp_grow.proofs.Settled.{map-pick, settled_changes, settled_few, settled_next, look_rest, settles_at, stands_at}
 
 some_is : {X : Type 0} (a b : X) → Some a ≡ Some b → a ≡ b
 some_is a b e = cc
@@ -74,6 +74,7 @@ module _ (t : Table) (e : Entry) where
         stands = stands_at t ns spot.shape spot.below_next spot.fresh draft c number own off n 0 (es ++ e ∷ []) refl (then after) (λ k h. subst IsLeaf (sym h) tt) (λ k is h. subst IsLeaf (sym h) tt) left after refl s;
         changes = settled_changes t ns spot.shape spot.below_next spot.fresh draft c number own off n (λ h. longer (some_is (Leaf es) n (sym is ∙ h))) (λ m h. sizes m (some_is (Leaf es) m (sym is ∙ h))) left after s;
         few = let f = settled_few t ns spot.shape spot.below_next spot.fresh draft c number own off n left after s in omega (arith, f, ap (λ (ps : List Part). length ps) none);
+        few_new = let f = settled_next t ns spot.shape spot.below_next spot.fresh draft c number own off n left after s in omega (arith, f, start);
       }
     where
       longer : Leaf es ≡ Leaf (es ++ e ∷ []) → ⊥
@@ -312,6 +313,7 @@ module _ (t : Table) (e : Entry) where
             stands = subst (Stands at (suc level)) (sym named) (inner_stands at number (front ++ c ∷ back) here (subst (λ (cs : List Child). AllByRecursion (λ d. Stands at level d.node) cs) list (list_stands below.left below.draft g at rest)));
             changes = wider below.left below.draft g;
             few = omega (arith, g.few);
+            few_new = omega (arith, g.few_new);
           }
 
       -- it is not
@@ -336,6 +338,7 @@ module _ (t : Table) (e : Entry) where
                 (λ k is h. inner_stands at k (pick items is) h (all_pick (λ d. Stands at level d.node) items is stood)) left draft refl s;
             changes = settled_changes t own spot.shape spot.below_next spot.fresh below.draft w number number_own o n (λ h. other_list below.left differs (some_is (Inner (front ++ c ∷ back)) n (sym is ∙ h))) (λ m h. sizes below.left m (some_is (Inner (front ++ c ∷ back)) m (sym is ∙ h))) left draft s;
             few = let f = settled_few t own spot.shape spot.below_next spot.fresh below.draft w number number_own o n left draft s in omega (arith, f, g.few);
+            few_new = let f = settled_next t own spot.shape spot.below_next spot.fresh below.draft w number number_own o n left draft s in omega (arith, f, g.few_new);
           }
         where
           inner_list : (xs ys : List Child) → Inner xs ≡ Inner ys → xs ≡ ys

@@ -1,5 +1,5 @@
 -- The steps of an insertion on a table of nodes, from the chosen leaf up. No public clause speaks of them.
-use Rattle.std.specs.Prelude.{◌≡◌, ℕ, zero, suc, ◌+◌, ◌*◌, ◌<◌, ◌≤◌, ◌⊎◌, true, List, [], ◌∷◌, ◌++◌, length, nat_eq, Option, Some, None}
+use Rattle.std.specs.Prelude.{◌≡◌, ℕ, zero, suc, ◌+◌, ◌*◌, ◌^◌, ◌<◌, ◌≤◌, ◌⊎◌, true, List, [], ◌∷◌, ◌++◌, length, nat_eq, Option, Some, None}
 use Rattle.std.specs.List.{flat_map, AllByRecursion, IsDistinct}
 use Rattle.sp_rect.specs.Plane.{whole}
 use Rattle.sp_rect.specs.Inside.{bound_of}
@@ -40,6 +40,8 @@ pub record IsSpot (t : Table) (level number : ℕ) : Type 0 where
   pub distinct : IsDistinct nat_eq (numbers level number (body_at (look t.nodes) level number))
   pub below_next : AllByRecursion (λ n. n < t.next) (numbers level number (body_at (look t.nodes) level number))
   pub fresh : (k : ℕ) → t.next ≤ k → look t.nodes k ≡ None
+  -- numbers are left for a split of each node on a way down, and a new root
+  pub room : t.next + level_of t + 2 < 2 ^ 64
 
 -- A node is put under its number, or its two groups under that number and the next.
 abbrev pub IsSettled : Shape → Draft → ℕ → Node → Left → Draft → Type 0
@@ -100,3 +102,4 @@ pub record IsGrownAt (t : Table) (e : Entry) (level number : ℕ) (left : Left) 
   pub stands : EachStands (look (with_parts t.nodes draft.parts)) level left
   pub changes : AreChanges t (numbers level number (body_at (look t.nodes) level number)) draft
   pub few : length draft.parts ≤ 2 * (level + 1)
+  pub few_new : draft.next ≤ t.next + level + 1

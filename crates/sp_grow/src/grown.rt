@@ -24,6 +24,7 @@ fn step_up(
 ) -> Result<Step, AllocError>
     requires shape { IsShape shape }
     requires within { at < length children.now }
+    requires numbers { below.draft.next + 1 < 2 ^ 64 }
     ensures { IfOk result (λ step. IsStepped shape number (take at children.now) (slice_index_or children.now at no_child) (drop (at + 1) children.now) below step) }
 {
     let members = children.as_slice();
@@ -64,6 +65,7 @@ fn grow_below(alloc: Global, tree: &Tree, number: u64, entry: &Entry) -> Result<
 
 // The root above what is left of the old one.
 fn raise(alloc: Global, step: Step) -> Result<Plan, AllocError>
+    requires { step.draft.next + 1 < 2 ^ 64 }
     ensures { IfOk result (λ plan. IsRaised step plan) }
 {
     let mut draft = step.draft;
@@ -71,7 +73,7 @@ fn raise(alloc: Global, step: Step) -> Result<Plan, AllocError>
         Left::One(root) => root.node,
         Left::Two(a, b) => {
             let root = draft.next;
-            draft.next = root.checked_add(1).ok_or(AllocError)?;
+            draft.next = root + 1;
             let mut children = Children::new(alloc);
             children.push(a)?;
             children.push(b)?;
@@ -87,7 +89,8 @@ fn raise(alloc: Global, step: Step) -> Result<Plan, AllocError>
 }
 
 fn plan(alloc: Global, tree: &Tree, entry: &Entry) -> Result<Plan, AllocError>
-    requires { leaf_with tree.now.table.nodes entry.now.number ≡ None }
+    requires fresh { leaf_with tree.now.table.nodes entry.now.number ≡ None }
+    requires numbers { tree.now.table.next < 2 ^ 63 + 2 ^ 32 }
     ensures made { IfOk result (λ plan. IsMadeOf tree.now.table plan) }
     ensures grown { IfOk result (λ plan. IsGrown tree.now.table entry.now (planned tree.now.table plan)) }
     ensures parts { IfOk result (λ plan. length plan.parts ≤ 2 * (level_of tree.now.table + 1) + 1) }

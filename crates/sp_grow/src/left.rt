@@ -137,11 +137,12 @@ fn split(
     requires shape { IsShape shape }
     requires rects { rects.now ≡ rects_in node.now }
     requires many { shape.max < length rects.now }
+    requires numbers { draft.next + 1 < 2 ^ 64 }
     ensures { IfOk result (λ step. IsSettled shape draft number node.now step.left step.draft) }
 {
     let groups = quadratic(alloc, rects, shape.min as usize)?;
     let other = draft.next;
-    draft.next = other.checked_add(1).ok_or(AllocError)?;
+    draft.next = other + 1;
     let first = put_group(alloc, &mut draft.parts, number, node, &groups.first)?;
     let second = put_group(alloc, &mut draft.parts, other, node, &groups.second)?;
     Ok(Step {
@@ -160,6 +161,7 @@ pub(crate) fn settle(
 ) -> Result<Step, AllocError>
     requires shape { IsShape shape }
     requires some { 0 < length (rects_in node) }
+    requires numbers { draft.next + 1 < 2 ^ 64 }
     ensures { IfOk result (λ step. IsSettled shape draft number node step.left step.draft) }
 {
     let rects = rects_of(alloc, &node)?;

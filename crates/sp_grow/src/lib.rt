@@ -1,4 +1,5 @@
-//! Insertion into an R-tree, after Guttman, "R-Trees", SIGMOD 1984.
+//! Insertion into an R-tree, after Guttman, "R-Trees", SIGMOD 1984: the leaf that it goes to, and the plan
+//! of the nodes that it makes or changes.
 #![tactic(auto)]
 
 mod choice;
@@ -8,3 +9,6 @@ mod members;
 
 pub use choice::choose_leaf;
 pub use grown::grow;
+
+#[cfg(test)]
+mod tests;

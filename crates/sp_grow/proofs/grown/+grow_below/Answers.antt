@@ -29,6 +29,22 @@ grow_below-requires t c =
     let e = subst (λ (cs : List Child). Down c.args.tree.now.table c.args.entry.now c.args.number c.in-Some-Inner.children is c.choose_child-at.result within (get_or cs c.choose_child-at.result c.index-as_slice-at.result).node) (sym c.as_slice-in-Some-Inner.ensures) d in
     (omega (arith, e.less, c.decreases), (e.level, e.spot))
 
+pub step_up-requires-clause-numbers : goal.step_up-requires-clause-numbers
+step_up-requires-clause-numbers t c =
+    let table : Table = c.args.tree.now.table in
+    let cs : List Child = c.in-Some-Inner.children in
+    let at : ℕ = c.choose_child-at.result in
+    let below : Step = c.in_ok-below-in-Some-Inner.below in
+    let is : look c.args.tree.now.table.nodes c.args.number ≡ Some (Inner c.in-Some-Inner.children) = sym c.in-Some-Inner.ensures.value ∙ ap Some c.in-Some-Inner.field-0-is in
+    let within : c.choose_child-at.result < length c.in-Some-Inner.children = omega (arith, c.choose_child-at.ensures.within, ap (λ (cs : List Child). length cs) c.as_slice.ensures) in
+    let d = down table c.args.entry.now c.args.number cs is at within c.index-as_slice-at.result c.requires.0 c.requires.1 in
+    let rec = subst (λ (ds : List Child). (level : ℕ) → IsSpot table level (get_or ds at c.index-as_slice-at.result).node → IsGrownAt table c.args.entry.now level (get_or ds at c.index-as_slice-at.result).node below.left below.draft) c.as_slice-in-Some-Inner.ensures c.in_ok-below-in-Some-Inner.ensures in
+    let g = rec d.level d.spot in
+    let few = g.few_new in
+    let low = d.spot.low in
+    let room = d.spot.room in
+    omega (arith, few, low, room)
+
 pub returns-in_ok-items-in-Some-Leaf : goal.returns-in_ok-items-in-Some-Leaf
 returns-in_ok-items-in-Some-Leaf t c =
     let is : look c.args.tree.now.table.nodes c.args.number ≡ Some (Leaf c.in-Some-Leaf.entries) = sym c.in-Some-Leaf.ensures.value ∙ ap Some c.in-Some-Leaf.field-0-is in

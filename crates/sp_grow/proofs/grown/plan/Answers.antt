@@ -1,4 +1,4 @@
-use Rattle.std.proofs.Common.{ℕ, ◌+◌, ◌*◌, ◌≤◌, length, sym, subst, IfOk}
+use Rattle.std.proofs.Common.{ℕ, ◌+◌, ◌*◌, ◌≤◌, length, sym, subst, IfOk, arith}
 use Rattle.std.proofs.lemmas.Result.{IfOk-weaker}
 use Rattle.sp_node.specs.Plan.{IsMadeOf, planned}
 use Rattle.sp_node.specs.Table.{Table, level_of}
@@ -11,16 +11,25 @@ use Rattle.sp_grow.proofs.grown.plan.Goals as goal
 pub grow_below-requires : goal.grow_below-requires
 grow_below-requires c =
     let t : Table = c.args.tree.now.table in
-    (level_of t, subst (IsSpot t (level_of t)) (sym c.root.ensures.value) (root_spot t c.root.ensures.valid))
+    (level_of t, subst (IsSpot t (level_of t)) (sym c.root.ensures.value) (root_spot t c.root.ensures.valid c.requires.numbers))
+
+pub raise-requires : goal.raise-requires
+raise-requires c =
+    let t : Table = c.args.tree.now.table in
+    let spot = subst (IsSpot t (level_of t)) (sym c.root.ensures.value) (root_spot t c.root.ensures.valid c.requires.numbers) in
+    let g = c.in_ok-step.ensures (level_of t) spot in
+    let few = g.few_new in
+    let room = spot.room in
+    omega (arith, few, room)
 
 all : (c : goal.After-raise) → IfOk c.raise.result (IsDone c.args.tree.now.table c.args.entry.now)
 all c =
     let t : Table = c.args.tree.now.table in
     let v = c.root.ensures.valid in
-    let spot = subst (IsSpot t (level_of t)) (sym c.root.ensures.value) (root_spot t v) in
+    let spot = subst (IsSpot t (level_of t)) (sym c.root.ensures.value) (root_spot t v c.requires.numbers) in
     let grown = subst (λ (n : ℕ). IsGrownAt t c.args.entry.now (level_of t) n c.in_ok-step.step.left c.in_ok-step.step.draft) c.root.ensures.value (c.in_ok-step.ensures (level_of t) spot) in
     IfOk-weaker c.raise.result (IsRaised c.in_ok-step.step) (IsDone t c.args.entry.now)
-    (λ plan r. done t v c.next-next.ensures.rising c.args.entry.now c.requires c.x1-in_space.ensures.valid c.in_ok-step.step.left c.in_ok-step.step.draft plan grown r) c.raise.ensures
+    (λ plan r. done t v c.next-next.ensures.rising c.args.entry.now c.requires.fresh c.x1-in_space.ensures.valid c.requires.numbers c.in_ok-step.step.left c.in_ok-step.step.draft plan grown r) c.raise.ensures
 
 pub returns-clause-made : goal.returns-clause-made
 returns-clause-made c = IfOk-weaker c.raise.result (IsDone c.args.tree.now.table c.args.entry.now) (λ plan. IsMadeOf c.args.tree.now.table plan) (λ plan d. d.made) (all c)
