@@ -1,0 +1,18 @@
+// Laws of who waits for whom, for the crates that stand on them.
+ghost use Rattle.std.specs.Prelude.{◌≡◌, ℕ, None, List};
+ghost use Rattle.sp_locks.specs.declared.mode.Mode.{Mode as AnyMode};
+ghost use Rattle.sp_locks.specs.declared.row.Name.{Name as AnyName};
+ghost use Rattle.sp_locks.specs.declared.row.Row.{Row as AnyRow};
+ghost use Rattle.sp_locks.specs.declared.row.Scope.TheVariants.{ShortLocks, AllRows};
+ghost use Rattle.sp_locks.specs.Rows.{waiting_in};
+ghost use Rattle.sp_locks.specs.Table.{released};
+ghost use Rattle.sp_locks.specs.Soundness.{IsSound};
+ghost use Rattle.sp_waits.specs.Edges.{once_waiting, Closes, NoCycle};
+
+/// Where nobody waits for itself, nobody does once a session waits, unless that wait closes a cycle.
+pub fn waits_that_close_none_make_none()
+    ensures { (rows : List AnyRow) (session : ℕ) (name : AnyName) (mode : AnyMode) → IsSound rows
+        → waiting_in session rows ≡ None → NoCycle rows → (Closes rows session name mode → ⊥)
+        → NoCycle (once_waiting session name mode rows) }
+{
+}
