@@ -222,3 +222,242 @@ before-ahead u x r (y ∷ ys) once w b = (never (is_waiter u y) refl, go b (λ k
     go : ((y ≡ x) × In r ys) ⊎ Before x r ys → (Before x r ys → Ahead u x ys) → (y ≡ x) ⊎ Ahead u x ys
     go (inl h) rest = inl h.0
     go (inr k) rest = inr (rest k)
+
+waiters-same : (xs ys : List Row) (r : Row) → waiters (with_lock (granted r) xs ++ ys) ≡ waiters (xs ++ ys)
+waiters-same xs ys r = waiters-append (with_lock (granted r) xs) ys ∙ ap (λ (zs : List Row). zs ++ waiters ys) (waiters-with_lock (granted r) xs refl) ∙ sym (waiters-append xs ys)
+
+in-more : (x r : Row) (xs ys : List Row) → In x (xs ++ ys) → In x (xs ++ r ∷ ys)
+in-more x r xs ys i = go (in-split x xs ys i)
+  where
+    go : In x xs ⊎ In x ys → In x (xs ++ r ∷ ys)
+    go (inl j) = in-left x xs (r ∷ ys) j
+    go (inr j) = in-right x xs (r ∷ ys) (inr j)
+
+before-more : (x y r : Row) (xs ys : List Row) → Before x y (xs ++ ys) → Before x y (xs ++ r ∷ ys)
+before-more x y r [] ys b = inr b
+before-more x y r (z ∷ xs) ys (inl h) = inl (h.0, in-more y r xs ys h.1)
+before-more x y r (z ∷ xs) ys (inr h) = inr (before-more x y r xs ys h)
+
+-- what holds while waiting rows are dropped or granted
+steps-keep : (P : List Row → Type 0) → ((xs ys : List Row) (r : Row) → r.waiting ≡ true → P (xs ++ r ∷ ys) → P (xs ++ ys)) → ((xs ys : List Row) (r : Row) → r.waiting ≡ true → P (xs ++ r ∷ ys) → P (with_lock (granted r) xs ++ ys))
+    → (before rest : List Row) → P (before ++ rest) → P (retried before rest)
+steps-keep P drops grants before [] h = subst P (append-nil before) h
+steps-keep P drops grants before (r ∷ rest) h = go r.waiting refl (is_blocked before rest r.session r.mode) (is_short r) (λ b k. steps-keep P drops grants b rest k)
+  where
+    go : (w : Bool) → r.waiting ≡ w → (s t : Bool) → ((b : List Row) → P (b ++ rest) → P (retried b rest)) → P (if not w || s then retried (before ++ r ∷ []) rest else (if t then retried before rest else retried (with_lock (granted r) before) rest))
+    go false w s t next = next (before ++ r ∷ []) (subst P (sym (append_assoc before (r ∷ []) rest)) h)
+    go true w true t next = next (before ++ r ∷ []) (subst P (sym (append_assoc before (r ∷ []) rest)) h)
+    go true w false true next = next before (drops before rest r w h)
+    go true w false false next = next (with_lock (granted r) before) (grants before rest r w h)
+
+-- the order of rows that wait once all were tried
+order-kept : (x y : Row) → x.waiting ≡ true → y.waiting ≡ true → (before rest : List Row) → Before x y (retried before rest) → Before x y (before ++ rest)
+order-kept x y v w before rest b = steps-keep (λ zs. Before x y zs → Before x y (before ++ rest)) (λ xs ys r k old c. old (before-more x y r xs ys c)) grants before rest (λ c. c) b
+  where
+    grants : (xs ys : List Row) (r : Row) → r.waiting ≡ true → (Before x y (xs ++ r ∷ ys) → Before x y (before ++ rest)) → Before x y (with_lock (granted r) xs ++ ys) → Before x y (before ++ rest)
+    grants xs ys r k old c =
+        old (before-more x y r xs ys (before-filtered (λ z. z.waiting) x y (xs ++ ys) (subst (λ (zs : List Row). Before x y zs) (waiters-same xs ys r) (before-kept (λ z. z.waiting) x y (with_lock (granted r) xs ++ ys) c v w))))
+
+-- what one holds is not lost
+holds-with : (u : ℕ) (lock : Row) (xs : List Row) → holds_in u xs ≡ true → holds_in u (with_lock lock xs) ≡ true
+holds-with u lock [] h = absurd (true≢false (sym h))
+holds-with u lock (x ∷ xs) h = go (is_lock_of lock.session lock.duration x) (holds-with u lock xs)
+  where
+    first : (a b c : Bool) → (b ≡ true → c ≡ true) → (a || b) ≡ true → (a || c) ≡ true
+    first true b c f h = refl
+    first false b c f h = f h
+
+    go : (b : Bool) → (holds_in u xs ≡ true → holds_in u (with_lock lock xs) ≡ true) → holds_in u (if b then raised lock.mode x ∷ xs else x ∷ with_lock lock xs) ≡ true
+    go true rest = h
+    go false rest = first (is_held_by u x) (holds_in u xs) (holds_in u (with_lock lock xs)) rest h
+
+holds-two : (u : ℕ) (xs ys : List Row) → holds_in u (xs ++ ys) ≡ (holds_in u xs || holds_in u ys)
+holds-two u xs ys = any-append (is_held_by u) xs ys
+
+holds-retried : (u : ℕ) (before rest : List Row) → holds_in u (before ++ rest) ≡ true → holds_in u (retried before rest) ≡ true
+holds-retried u = steps-keep (λ zs. holds_in u zs ≡ true) drops (λ xs ys r w h. grants xs ys r (drops xs ys r w h))
+  where
+    skip : (a b w c : Bool) → w ≡ true → (a || ((not w && b) || c)) ≡ true → (a || c) ≡ true
+    skip a b w c e h = grind arith
+
+    drops : (xs ys : List Row) (r : Row) → r.waiting ≡ true → holds_in u (xs ++ r ∷ ys) ≡ true → holds_in u (xs ++ ys) ≡ true
+    drops xs ys r w h = holds-two u xs ys ∙ skip (holds_in u xs) (nat_eq r.session u) r.waiting (holds_in u ys) w (sym (holds-two u xs (r ∷ ys)) ∙ h)
+
+    wider : (a b c : Bool) → (a ≡ true → b ≡ true) → (a || c) ≡ true → (b || c) ≡ true
+    wider true b c f h = rw (f refl) refl
+    wider false true c f h = refl
+    wider false false c f h = h
+
+    grants : (xs ys : List Row) (r : Row) → holds_in u (xs ++ ys) ≡ true → holds_in u (with_lock (granted r) xs ++ ys) ≡ true
+    grants xs ys r h = holds-two u (with_lock (granted r) xs) ys ∙ wider (holds_in u xs) (holds_in u (with_lock (granted r) xs)) (holds_in u ys) (holds-with u (granted r) xs) (sym (holds-two u xs ys) ∙ h)
+
+-- a session whose requests all wait on holds only what it held
+held-old : (v : ℕ) (x : Row) → x.waiting ≡ false → x.session ≡ v → (before rest : List Row) → WaitOnce (before ++ rest) → ((r : Row) → In r (before ++ rest) → r.waiting ≡ true → r.session ≡ v → In r (retried before rest)) → In x (retried before rest) → In x (before ++ rest)
+held-old v x h e before [] once quiet i = subst (In x) (sym (append-nil before)) i
+held-old v x h e before (r ∷ rest) once quiet i = go r.waiting refl (is_blocked before rest r.session r.mode) (is_short r) quiet i (λ b. held-old v x h e b rest)
+  where
+    own : (a : Row) → Made (granted r) before a → a.session ≡ r.session
+    own a (New f) = ap (λ (z : Row). z.session) (sym f)
+    own a (Raised y j w s f) = ap (λ (z : Row). z.session) (sym f) ∙ s
+
+    assoc : (before ++ r ∷ []) ++ rest ≡ before ++ r ∷ rest
+    assoc = append_assoc before (r ∷ []) rest
+
+    twice : (y : Row) → r.waiting ≡ true → y ≡ r → In y (before ++ rest) → ⊥
+    twice y w same j = two (in-split r before rest (subst (λ (z : Row). In z (before ++ rest)) same j))
+      where
+        two : In r before ⊎ In r rest → ⊥
+        two (inl k) = once r r (before-middle r r before rest k) w w refl
+        two (inr k) = once r r (tail before) w w refl
+          where
+            tail : (bs : List Row) → Before r r (bs ++ r ∷ rest)
+            tail [] = inl (refl, k)
+            tail (b ∷ bs) = inr (tail bs)
+
+    -- the row that is granted is another session's
+    other : r.waiting ≡ true → ((y : Row) → In y (before ++ r ∷ rest) → y.waiting ≡ true → y.session ≡ v → In y (retried (with_lock (granted r) before) rest)) → r.session ≡ v → ⊥
+    other w all same =
+        let j = all r (in-right r before (r ∷ rest) (inl refl)) w same in
+        twice r w refl (waits-same (with_lock (granted r) before ++ rest) (before ++ rest) r (waiters-same before rest r) (waits-retried r w (with_lock (granted r) before) rest j) w)
+
+    go : (w : Bool) → r.waiting ≡ w → (b t : Bool)
+        → ((y : Row) → In y (before ++ r ∷ rest) → y.waiting ≡ true → y.session ≡ v → In y (if not w || b then retried (before ++ r ∷ []) rest else (if t then retried before rest else retried (with_lock (granted r) before) rest)))
+        → In x (if not w || b then retried (before ++ r ∷ []) rest else (if t then retried before rest else retried (with_lock (granted r) before) rest))
+        → ((bs : List Row) → WaitOnce (bs ++ rest) → ((y : Row) → In y (bs ++ rest) → y.waiting ≡ true → y.session ≡ v → In y (retried bs rest)) → In x (retried bs rest) → In x (bs ++ rest)) → In x (before ++ r ∷ rest)
+    go false w b t all i next = subst (In x) assoc (next (before ++ r ∷ []) (subst WaitOnce (sym assoc) once) (λ y j. all y (subst (In y) assoc j)) i)
+    go true w true t all i next = subst (In x) assoc (next (before ++ r ∷ []) (subst WaitOnce (sym assoc) once) (λ y j. all y (subst (In y) assoc j)) i)
+    go true w false true all i next = in-more x r before rest (next before (once-without before rest r once) (λ y j. all y (in-more y r before rest j)) i)
+    go true w false false all i next =
+        let k = next (with_lock (granted r) before) (once-locked before rest r once) (λ y j u. all y (in-more y r before rest (waits-same (with_lock (granted r) before ++ rest) (before ++ rest) y (waiters-same before rest r) j u)) u) i in
+        at (in-split x (with_lock (granted r) before) rest k)
+      where
+        made : In x before ⊎ Made (granted r) before x → In x (before ++ r ∷ rest)
+        made (inl j) = in-left x before (r ∷ rest) j
+        made (inr m) = absurd (other w all (sym (own x m) ∙ e))
+
+        at : In x (with_lock (granted r) before) ⊎ In x rest → In x (before ++ r ∷ rest)
+        at (inl j) = made (in-with_lock (granted r) before x j)
+        at (inr j) = in-right x before (r ∷ rest) (inr j)
+
+-- an edge between sessions that wait on stood before
+module _ (scope : Scope) (s : ℕ) (rows : List Row) (sound : IsSound rows) (awake : (x : Row) → In x rows → goes scope s x ≡ false → x.waiting ≡ true → x.session ≢ s) (own : (x : Row) → goes scope s x ≡ true → x.session ≡ s) where
+  abbrev out : List Row
+  out = released scope s rows
+
+  abbrev left : Name → List Row
+  left n = filter (λ x. not (goes scope s x)) (rows_on n rows)
+
+  now : IsSound out
+  now = release-sound scope s rows sound
+
+  out-on : (n : Name) → rows_on n out ≡ retried [] (left n)
+  out-on n = released-on scope s n rows
+
+  left-once : (n : Name) → WaitOnce (left n)
+  left-once n x y b = once-on n rows sound.once x y (before-filtered (λ z. not (goes scope s z)) x y (rows_on n rows) b)
+
+  -- its requests wait on, so it holds what it held
+  quiet : (n : Name) (v : ℕ) (y : Row) → waiting_in v out ≡ Some y → (r : Row) → In r (left n) → r.waiting ≡ true → r.session ≡ v → In r (retried [] (left n))
+  quiet n v y w r i k e =
+      let f = found-waits v out y w in
+      let p = waiter-is v y f.1 in
+      let on = in-table n r rows (of_kept (λ z. not (goes scope s z)) r (rows_on n rows) i).0 in
+      let same : r ≡ y = one_name rows sound.once r y on.0 (released-waits scope s rows y f.0 p.0) k p.0 (e ∙ sym p.1) in
+      let j : In r out = subst (λ (z : Row). In z out) (sym same) f.0 in
+      subst (In r) (out-on n) (subst (λ (m : Name). In r (rows_on m out)) (sym on.1) (in-name r out j))
+
+  held-stood : (n : Name) (v : ℕ) (y x : Row) → waiting_in v out ≡ Some y → x.waiting ≡ false → x.session ≡ v → In x (retried [] (left n)) → In x (rows_on n rows)
+  held-stood n v y x w h e i = (of_kept (λ z. not (goes scope s z)) x (rows_on n rows) (held-old v x h e [] (left n) (left-once n) (quiet n v y w) i)).0
+
+  not_kept : (b : Bool) → not b ≡ true → b ≡ false
+  not_kept b h = grind arith
+
+  -- who waits on loses nothing that it held
+  lost-nothing : (n : Name) (u : ℕ) (r : Row) → waiting_in u out ≡ Some r → holds_in u (retried [] (left n)) ≡ false → holds_in u (rows_on n rows) ≡ false
+  lost-nothing n u r w none = go (holds_in u (rows_on n rows)) refl
+    where
+      f : In r out × (is_waiter u r ≡ true)
+      f = found-waits u out r w
+
+      p : (r.waiting ≡ true) × (r.session ≡ u)
+      p = waiter-is u r f.1
+
+      stays : goes scope s r ≡ false
+      stays =
+          let j : In r (released_in scope s (rows_on r.name rows)) = subst (In r) (released-on scope s r.name rows) (in-name r out f.0) in
+          not_kept (goes scope s r) (of_kept (λ z. not (goes scope s z)) r (rows_on r.name rows) (waits-retried r p.0 [] (left r.name) j)).1
+
+      apart : u ≢ s
+      apart e = awake r (released-waits scope s rows r f.0 p.0) stays p.0 (p.1 ∙ e)
+
+      never : (z : Row) → In z (rows_on n rows) → is_held_by u z ≡ true → ⊥
+      never z i h = by (goes scope s z) refl
+        where
+          by : (b : Bool) → goes scope s z ≡ b → ⊥
+          by true g = apart (sym (numbers-same z.session u (second_of_both (not z.waiting) (nat_eq z.session u) h)) ∙ own z g)
+          by false g =
+              true≢false
+              (sym (holds-retried u [] (left n) (to_any (is_held_by u) z (left n) (in-kept (λ q. not (goes scope s q)) z (rows_on n rows) i (ap not g)) h)) ∙ none)
+
+      go : (b : Bool) → holds_in u (rows_on n rows) ≡ b → b ≡ false
+      go false e = refl
+      go true e = let a = of_any (is_held_by u) (rows_on n rows) e in absurd (never a.0 a.1 a.2)
+
+  edge-stood : (u v : ℕ) (y : Row) → waiting_in v out ≡ Some y → member v (waits_of out u) ≡ true → member v (waits_of rows u) ≡ true
+  edge-stood u v y w h = subst (λ (o : Option Row). member v (of_row u rows o) ≡ true) (sym was) (subst (λ (x : ℕ). member x (stopped_by u r.name r.mode rows) ≡ true) k.by (to_stopping (holds_in u (rows_on r.name rows)) u r.mode (rows_on r.name rows) k.row (stood k.how) k.other k.against (how k.how)))
+    where
+      start : (r : Row) × (waiting_in u out ≡ Some r) × (member v (stopped_by u r.name r.mode out) ≡ true)
+      start = starts-waiting out u v h
+
+      r : Row
+      r = start.0
+
+      f : In r out × (is_waiter u r ≡ true)
+      f = found-waits u out r start.1
+
+      p : (r.waiting ≡ true) × (r.session ≡ u)
+      p = waiter-is u r f.1
+
+      there : In r rows
+      there = released-waits scope s rows r f.0 p.0
+
+      was : waiting_in u rows ≡ Some r
+      was = found-one u rows r sound.once there f.1
+
+      k : IsStopping (holds_in u (retried [] (left r.name))) u r.mode (retried [] (left r.name)) v
+      k = of_stopping (holds_in u (retried [] (left r.name))) u r.mode (retried [] (left r.name)) v (subst (λ (xs : List Row). member v (stopping (holds_in u xs) u r.mode xs) ≡ true) (out-on r.name) start.2)
+
+      ahead : (k.row.waiting ≡ true) → Ahead u k.row (retried [] (left r.name)) → Before k.row r (rows_on r.name rows)
+      ahead w a =
+          let i : In r (retried [] (left r.name)) = subst (In r) (out-on r.name) (in-name r out f.0) in
+          before-filtered (λ z. not (goes scope s z)) k.row r (rows_on r.name rows) (order-kept k.row r w p.0 [] (left r.name) (ahead-before u k.row r (retried [] (left r.name)) k.other f.1 i a))
+
+      waits : (b : Bool) → k.row.waiting ≡ b → (b ≡ true) ⊎ (b ≡ false)
+      waits true e = inl refl
+      waits false e = inr refl
+
+      stood : (k.row.waiting ≡ false) ⊎ ((holds_in u (retried [] (left r.name)) ≡ false) × Ahead u k.row (retried [] (left r.name))) → In k.row (rows_on r.name rows)
+      stood (inl e) = held-stood r.name v y k.row w e k.by k.stands
+      stood (inr (e, a)) = go k.row.waiting refl
+        where
+          go : (b : Bool) → k.row.waiting ≡ b → In k.row (rows_on r.name rows)
+          go true z = (before-in k.row r (rows_on r.name rows) (ahead z a)).0
+          go false z = held-stood r.name v y k.row w z k.by k.stands
+
+      how : (k.row.waiting ≡ false) ⊎ ((holds_in u (retried [] (left r.name)) ≡ false) × Ahead u k.row (retried [] (left r.name))) → (k.row.waiting ≡ false) ⊎ ((holds_in u (rows_on r.name rows) ≡ false) × Ahead u k.row (rows_on r.name rows))
+      how (inl e) = inl e
+      how (inr (e, a)) = go k.row.waiting refl
+        where
+          go : (b : Bool) → k.row.waiting ≡ b → (k.row.waiting ≡ false) ⊎ ((holds_in u (rows_on r.name rows) ≡ false) × Ahead u k.row (rows_on r.name rows))
+          go false z = inl z
+          go true z = inr (lost-nothing r.name u r start.1 e, before-ahead u k.row r (rows_on r.name rows) (once-on r.name rows sound.once) f.1 (ahead z a))
+
+  none-made : NoCycle rows → NoCycle out
+  none-made none = no_cycle-kept rows out edge-stood none
+
+pub release_all-acyclic : (rows : List Row) (s : ℕ) → IsSound rows → NoCycle rows → NoCycle (released AllRows s rows)
+release_all-acyclic rows s sound none = none-made AllRows s rows sound (λ x i g w e. true≢false (sym (numbers-tell x.session s e) ∙ g)) (λ x h. numbers-same x.session s h) none
+
+pub release_short-acyclic : (rows : List Row) (s : ℕ) → IsSound rows → waiting_in s rows ≡ None → NoCycle rows → NoCycle (released ShortLocks s rows)
+release_short-acyclic rows s sound awake none =
+    none-made ShortLocks s rows sound (λ x i g w e. true≢false (sym (both x.waiting (nat_eq x.session s) w (numbers-tell x.session s e)) ∙ none-waits s rows x awake i)) (λ x h. (is-lock s Rattle.sp_locks.specs.declared.row.Duration.TheVariants.Short x h).1) none

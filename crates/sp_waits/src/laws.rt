@@ -16,3 +16,13 @@ pub fn waits_that_close_none_make_none()
         → NoCycle (once_waiting session name mode rows) }
 {
 }
+
+/// A release makes no session wait for itself. One of short locks is of a session that does not
+/// wait.
+pub fn releases_make_no_cycle()
+    ensures all { (rows : List AnyRow) (session : ℕ) → IsSound rows → NoCycle rows
+        → NoCycle (released AllRows session rows) }
+    ensures short { (rows : List AnyRow) (session : ℕ) → IsSound rows → waiting_in session rows ≡ None
+        → NoCycle rows → NoCycle (released ShortLocks session rows) }
+{
+}
