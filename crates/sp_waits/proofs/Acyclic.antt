@@ -73,13 +73,12 @@ wait-acyclic rows s name mode sound awake none shut u c =
     still-none rows s name mode none (λ d. shut (subst (λ (f : ℕ → List ℕ). Chain f s s) (sym same) d)) u (subst (λ (f : ℕ → List ℕ). Chain f u u) same c)
 
 -- who has an edge waits
-starts-waiting : (rows : List Row) (u v : ℕ) → member v (waits_of rows u) ≡ true → (r : Row) × (waiting_in u rows ≡ Some r) × (member v (stopped_by u r.name r.mode rows) ≡ true)
+pub starts-waiting : (rows : List Row) (u v : ℕ) → member v (waits_of rows u) ≡ true → (r : Row) × (waiting_in u rows ≡ Some r) × (member v (stopped_by u r.name r.mode rows) ≡ true)
 starts-waiting rows u v h = go (waiting_in u rows) refl h
   where
     go : (o : Option Row) → waiting_in u rows ≡ o → member v (of_row u rows o) ≡ true → (r : Row) × (waiting_in u rows ≡ Some r) × (member v (stopped_by u r.name r.mode rows) ≡ true)
     go None e h = absurd (true≢false (sym h))
     go (Some r) e h = (r, e, h)
-
 
 chain-starts : (rows : List Row) (u v : ℕ) → Chain (waits_of rows) u v → (r : Row) × (waiting_in u rows ≡ Some r)
 chain-starts rows u v (Link h) = let k = starts-waiting rows u v h in (k.0, k.1)
@@ -93,19 +92,19 @@ pub no_cycle-kept : (rows out : List Row) → ((u v : ℕ) (y : Row) → waiting
 no_cycle-kept rows out kept none u c = let k = chain-starts out u u c in none u (chain-kept rows out kept u u k.0 k.1 c)
 
 -- the row x stands ahead of the request of u
-abbrev Ahead : ℕ → Row → List Row → Type 0
+abbrev pub Ahead : ℕ → Row → List Row → Type 0
 Ahead u x [] = ⊥
 Ahead u x (y ∷ ys) = (is_waiter u y ≡ false) × ((y ≡ x) ⊎ Ahead u x ys)
 
-record IsStopping (h : Bool) (u : ℕ) (m : Mode) (xs : List Row) (v : ℕ) : Type 0 where
-  row : Row
-  stands : In row xs
-  by : row.session ≡ v
-  other : nat_eq row.session u ≡ false
-  against : compatible m row.mode ≡ false
-  how : (row.waiting ≡ false) ⊎ ((h ≡ false) × Ahead u row xs)
+pub record IsStopping (h : Bool) (u : ℕ) (m : Mode) (xs : List Row) (v : ℕ) : Type 0 where
+  pub row : Row
+  pub stands : In row xs
+  pub by : row.session ≡ v
+  pub other : nat_eq row.session u ≡ false
+  pub against : compatible m row.mode ≡ false
+  pub how : (row.waiting ≡ false) ⊎ ((h ≡ false) × Ahead u row xs)
 
-of_stopping : (h : Bool) (u : ℕ) (m : Mode) (xs : List Row) (v : ℕ) → member v (stopping h u m xs) ≡ true → IsStopping h u m xs v
+pub of_stopping : (h : Bool) (u : ℕ) (m : Mode) (xs : List Row) (v : ℕ) → member v (stopping h u m xs) ≡ true → IsStopping h u m xs v
 of_stopping h u m [] v k = absurd (true≢false (sym k))
 of_stopping h u m (x ∷ xs) v k = go (is_waiter u x) refl (stops h u m x) refl k (λ c. of_stopping c u m xs v)
   where
@@ -152,7 +151,7 @@ of_stopping h u m (x ∷ xs) v k = go (is_waiter u x) refl (stops h u m x) refl 
     go false n false t k rest = later n (rest h k)
 
 -- a row that stops, held or ahead
-to_stopping : (h : Bool) (u : ℕ) (m : Mode) (xs : List Row) (x : Row) → In x xs → nat_eq x.session u ≡ false → compatible m x.mode ≡ false → (x.waiting ≡ false) ⊎ ((h ≡ false) × Ahead u x xs) → member x.session (stopping h u m xs) ≡ true
+pub to_stopping : (h : Bool) (u : ℕ) (m : Mode) (xs : List Row) (x : Row) → In x xs → nat_eq x.session u ≡ false → compatible m x.mode ≡ false → (x.waiting ≡ false) ⊎ ((h ≡ false) × Ahead u x xs) → member x.session (stopping h u m xs) ≡ true
 to_stopping h u m [] x i o a how = absurd i
 to_stopping h u m (y ∷ ys) x i o a how = go (is_waiter u y) refl (stops h u m y) refl i how (λ c. to_stopping c u m ys x)
   where
@@ -198,7 +197,7 @@ to_stopping h u m (y ∷ ys) x i o a how = go (is_waiter u y) refl (stops h u m 
         at (inr e) = absurd (true≢false (sym (stopped e) ∙ t))
 
 -- ahead of the only waiting row of u is before it
-ahead-before : (u : ℕ) (x r : Row) (xs : List Row) → nat_eq x.session u ≡ false → is_waiter u r ≡ true → In r xs → Ahead u x xs → Before x r xs
+pub ahead-before : (u : ℕ) (x r : Row) (xs : List Row) → nat_eq x.session u ≡ false → is_waiter u r ≡ true → In r xs → Ahead u x xs → Before x r xs
 ahead-before u x r [] o w i a = absurd i
 ahead-before u x r (y ∷ ys) o w i a = go i (λ j k. ahead-before u x r ys o w j k) a
   where
@@ -207,7 +206,7 @@ ahead-before u x r (y ∷ ys) o w i a = go i (λ j k. ahead-before u x r ys o w 
     go (inr j) rest (n, inl e) = inl (e, j)
     go (inr j) rest (n, inr k) = inr (rest j k)
 
-before-ahead : (u : ℕ) (x r : Row) (xs : List Row) → WaitOnce xs → is_waiter u r ≡ true → Before x r xs → Ahead u x xs
+pub before-ahead : (u : ℕ) (x r : Row) (xs : List Row) → WaitOnce xs → is_waiter u r ≡ true → Before x r xs → Ahead u x xs
 before-ahead u x r [] once w b = absurd b
 before-ahead u x r (y ∷ ys) once w b = (never (is_waiter u y) refl, go b (λ k. before-ahead u x r ys (λ p q c. once p q (inr c)) w k))
   where
