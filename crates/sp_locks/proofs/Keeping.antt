@@ -6,7 +6,7 @@ use Rattle.sp_locks.specs.declared.row.Scope.{Scope}
 use Rattle.sp_locks.specs.declared.row.Row.{Row}
 use Rattle.sp_locks.specs.declared.needs.Need.{Need}
 use Rattle.sp_locks.specs.Rows.{same_name, is_blocked, is_waiter, waiting_in, with_lock, with_row, goes, retried, released_in}
-use Rattle.sp_locks.specs.Table.{is_on, rows_on, with_row_on, given, lock_for, released, AreFree}
+use Rattle.sp_locks.specs.Table.{is_on, rows_on, with_row_on, given, lock_for, released, AreFreeInTurn}
 use Rattle.sp_locks.specs.Soundness.{In, Before, HeldCompatible, WaitersBlocked, WaitOnce, IsSound, name_of, AreWaits}
 use Rattle.sp_locks.proofs.Names.{same_is, same-refl}
 use Rattle.sp_locks.proofs.Members.{in-left, in-right, in-split, in-kept, of_kept, ordered, before-in, before-kept, before-filtered, numbers-same, numbers-tell, first_of_both, second_of_both, both}
@@ -288,7 +288,7 @@ wait-others s r rows w other once once' = go (waiting_in s rows) refl (waiting_i
         old (inr g) v = absurd (other (sym (waiter-is s x v).1 ∙ ap (λ (q : Row). q.session) (sym g)))
 
 -- gifts on names without rows
-pub gifts-sound : (s : ℕ) (needs : List Need) (rows : List Row) → AreFree s rows needs → IsSound rows → IsSound (rows ++ given s needs) × ((u : ℕ) → waiting_in u (rows ++ given s needs) ≡ waiting_in u rows)
+pub gifts-sound : (s : ℕ) (needs : List Need) (rows : List Row) → AreFreeInTurn s rows needs → IsSound rows → IsSound (rows ++ given s needs) × ((u : ℕ) → waiting_in u (rows ++ given s needs) ≡ waiting_in u rows)
 gifts-sound s [] rows free sound = (subst IsSound (sym (append-nil rows)) sound, λ u. ap (waiting_in u) (append-nil rows))
 gifts-sound s (need ∷ needs) rows free sound =
     let lock : Row = lock_for s need in
@@ -390,7 +390,7 @@ released-left scope s es fs old new sound are is left =
     (now, subst (λ gs. AreWaits gs new) (sym left) (waits-left es old new sound.once now.once (λ x i w. released-waits scope s old x (subst (In x) is i) w) are))
 
 -- and after gifts, or where there was no memory for them
-pub gifts-kept : (s : ℕ) (needs : List Need) (old new : List Row) (es : List (ℕ × Name)) → AreFree s old needs → IsSound old → AreWaits es old
+pub gifts-kept : (s : ℕ) (needs : List Need) (old new : List Row) (es : List (ℕ × Name)) → AreFreeInTurn s old needs → IsSound old → AreWaits es old
     → (new ≡ old ++ given s needs) ⊎ (new ≡ old) → IsSound new × AreWaits es new
 gifts-kept s needs old new es free sound are (inr same) = (subst IsSound (sym same) sound, subst (AreWaits es) (sym same) are)
 gifts-kept s needs old new es free sound are (inl more) =

@@ -1,7 +1,7 @@
 // The rows of a table by name: where they stand, and how they come and go.
 ghost use Rattle.std.specs.Prelude.{◌≡◌, [], ◌∷◌, ◌++◌, OnOk, OnErr, IfOk, slice_get, if◌then◌else◌, List, is_ok};
 ghost use Rattle.sp_locks.specs.Rows.{released_in};
-ghost use Rattle.sp_locks.specs.Table.{rows_on, with_row_on, released, has_rows, given, AreFree};
+ghost use Rattle.sp_locks.specs.Table.{rows_on, with_row_on, released, has_rows, given, AreFreeInTurn};
 
 use crate::needs::Need;
 use crate::row::{Duration, Name, Row, Scope, SessionId};
@@ -76,7 +76,7 @@ impl RowsByName {
 
     // Takes back that many of the locks that were given.
     fn take_back(&mut self, session: SessionId, needs: &[Need])
-        ensures { (rows : List _) → AreFree session rows needs.now
+        ensures { (rows : List _) → AreFreeInTurn session rows needs.now
             → self.old ≡ rows ++ given session needs.now → self.new ≡ rows }
     {
         'back: for _i in (0..needs.len()).rev() {
@@ -92,7 +92,7 @@ impl RowsByName {
         session: SessionId,
         needs: &[Need],
     ) -> Result<(), AllocError>
-        requires { AreFree session self.old needs.now }
+        requires { AreFreeInTurn session self.old needs.now }
         ensures ok { OnOk result (self.new ≡ self.old ++ given session needs.now) }
         ensures err { OnErr result (self.new ≡ self.old) }
     {

@@ -6,9 +6,10 @@ ghost use Rattle.sp_locks.specs.declared.row.Scope.{Scope as AnyScope};
 ghost use Rattle.sp_locks.specs.declared.row.Row.{Row as AnyRow};
 ghost use Rattle.sp_locks.specs.declared.needs.Need.{Need as AnyNeed};
 ghost use Rattle.sp_locks.specs.Modes.{compatible as are_compatible, join as joined, covers as is_covering};
-ghost use Rattle.sp_locks.specs.Rows.{waiting_in};
+ghost use Rattle.sp_locks.specs.Rows.{waiting_in, goes};
 ghost use Rattle.sp_locks.specs.Table.{held, blockers, with_row_on, released, given, AreFree};
-ghost use Rattle.sp_locks.specs.Soundness.{IsSound};
+ghost use Rattle.sp_locks.specs.Soundness.{In, IsSound};
+ghost use Rattle.sp_locks.specs.Changes.{ComesFrom, IsCovered};
 ghost use Rattle.sp_locks.specs.Blocking.{member, IsAscending, Blocks};
 
 /// The join of two modes is the least that is as much as both, and a mode is compatible with it
@@ -44,8 +45,17 @@ pub fn requests_and_releases_stay_sound()
         → blockers row.session row.name row.mode rows ≡ [] → IsSound rows → IsSound (with_row_on row rows) }
     ensures waits { (rows : List AnyRow) (row : AnyRow) → row.waiting ≡ true → waiting_in row.session rows ≡ None
         → blockers row.session row.name row.mode rows ≢ [] → IsSound rows → IsSound (with_row_on row rows) }
-    ensures given { (rows : List AnyRow) (session : ℕ) (needs : List AnyNeed) → AreFree session rows needs
+    ensures given { (rows : List AnyRow) (session : ℕ) (needs : List AnyNeed) → AreFree rows needs
         → IsSound rows → IsSound (rows ++ given session needs) }
     ensures released { (rows : List AnyRow) (scope : AnyScope) (session : ℕ)
         → IsSound rows → IsSound (released scope session rows) }
+{}
+
+/// After a release each row is of the session, name and duration of one that the release did not
+/// take, and each lock that it did not take is covered by one that is held still.
+pub fn releases_take_no_other_rows()
+    ensures rows { (rows : List AnyRow) (scope : AnyScope) (session : ℕ) (x : AnyRow) → In x (released scope session rows)
+        → (from : ComesFrom rows x) × (goes scope session from.row ≡ false) }
+    ensures locks { (rows : List AnyRow) (scope : AnyScope) (session : ℕ) (x : AnyRow) → In x rows → x.waiting ≡ false
+        → goes scope session x ≡ false → IsCovered (released scope session rows) x }
 {}

@@ -2,6 +2,7 @@ use Rattle.std.proofs.Common.{◌≡◌, ◌≢◌, ℕ, true, not, List, [], �
 use Rattle.sp_list.specs.Emptiness.{is_empty}
 use Rattle.sp_locks.specs.Table.{rows_on}
 use Rattle.sp_locks.proofs.Blocking.{blocked-is}
+use Rattle.sp_locks.proofs.Giving.{free-in_turn}
 use Rattle.sp_locks.proofs.Keeping.{grant-sound, wait-sound, gifts-sound, release-sound, no_waiter, in-table}
 use Rattle.sp_locks.proofs.laws.requests_and_releases_stay_sound.Goals as goal
 
@@ -17,7 +18,7 @@ pub returns-clause-waits : goal.returns-clause-waits
 returns-clause-waits c rows row waits awake stuck sound = wait-sound row rows waits awake (blocked-is row.session row.mode (rows_on row.name rows) ∙ some _ stuck) sound
 
 pub returns-clause-given : goal.returns-clause-given
-returns-clause-given c rows session needs free sound = (gifts-sound session needs rows free sound).0
+returns-clause-given c rows session needs free sound = (gifts-sound session needs rows (free-in_turn session rows needs free) sound).0
 
 pub returns-clause-released : goal.returns-clause-released
 returns-clause-released c rows scope session sound = release-sound scope session rows sound
