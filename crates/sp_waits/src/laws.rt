@@ -1,11 +1,12 @@
 // Laws of who waits for whom, for the crates that stand on them.
-ghost use Rattle.std.specs.Prelude.{◌≡◌, ◌↔◌, ℕ, true, None, List};
+ghost use Rattle.std.specs.Prelude.{◌≡◌, ◌↔◌, ◌++◌, ℕ, true, false, None, List};
 ghost use Rattle.sp_locks.specs.declared.mode.Mode.{Mode as AnyMode};
 ghost use Rattle.sp_locks.specs.declared.row.Name.{Name as AnyName};
 ghost use Rattle.sp_locks.specs.declared.row.Row.{Row as AnyRow};
+ghost use Rattle.sp_locks.specs.declared.needs.Need.{Need as AnyNeed};
 ghost use Rattle.sp_locks.specs.declared.row.Scope.TheVariants.{ShortLocks, AllRows};
 ghost use Rattle.sp_locks.specs.Rows.{waiting_in};
-ghost use Rattle.sp_locks.specs.Table.{released};
+ghost use Rattle.sp_locks.specs.Table.{released, with_row_on, given, AreFree};
 ghost use Rattle.sp_locks.specs.Soundness.{IsSound};
 ghost use Rattle.sp_waits.specs.Edges.{member, waits_of, once_waiting, Closes, NoCycle};
 ghost use Rattle.sp_waits.specs.Waiting.{WaitsFor};
@@ -32,4 +33,13 @@ pub fn releases_make_no_cycle()
 pub fn edges_go_to_holders_and_earlier_waiters()
     ensures { (rows : List AnyRow) (session other : ℕ) → IsSound rows
         → (member other (waits_of rows session) ≡ true) ↔ WaitsFor rows session other }
+{}
+
+/// A granted request makes no session wait for itself, and neither do gifts, since who gets a lock
+/// does not wait.
+pub fn grants_make_no_cycle()
+    ensures granted { (rows : List AnyRow) (row : AnyRow) → row.waiting ≡ false → waiting_in row.session rows ≡ None
+        → IsSound rows → IsSound (with_row_on row rows) → NoCycle rows → NoCycle (with_row_on row rows) }
+    ensures given { (rows : List AnyRow) (session : ℕ) (needs : List AnyNeed) → AreFree rows needs
+        → waiting_in session rows ≡ None → IsSound rows → NoCycle rows → NoCycle (rows ++ given session needs) }
 {}
