@@ -1,24 +1,25 @@
 -- Waits that close no cycle, and releases, leave a table without one.
 use Rattle.std.proofs.Common.{◌≡◌, ◌≢◌, ◌⊎◌, ℕ, Bool, true, false, not, ◌&&◌, ◌||◌, if◌then◌else◌, nat_eq, List, [], ◌∷◌, ◌++◌, filter, Option, None, Some, refl, sym, ap, ◌∙◌, subst, inl, inr, true≢false, arith, append-nil, append_assoc}
-use Rattle.std.specs.List.{list_any}
 use Rattle.sp_locks.specs.declared.mode.Mode.{Mode}
 use Rattle.sp_locks.specs.declared.row.Name.{Name}
+use Rattle.sp_locks.specs.declared.row.Duration.{Duration}
 use Rattle.sp_locks.specs.declared.row.Scope.{Scope}
 use Rattle.sp_locks.specs.declared.row.Scope.TheVariants.{ShortLocks, AllRows}
 use Rattle.sp_locks.specs.declared.row.Row.{Row}
 use Rattle.sp_locks.specs.Modes.{compatible}
-use Rattle.sp_locks.specs.Rows.{same_name, is_held_by, is_lock_of, same_duration, is_waiter, stops, holds_in, is_blocked, is_short, waiting_in, raised, with_lock, granted, goes, retried, released_in}
-use Rattle.sp_locks.specs.Table.{is_on, rows_on, released}
+use Rattle.sp_locks.specs.Rows.{is_held_by, is_lock_of, is_waiter, stops, holds_in, is_blocked, is_short, waiting_in, raised, with_lock, granted, goes, retried, released_in}
+use Rattle.sp_locks.specs.Table.{rows_on, released, row_of, with_row_on}
 use Rattle.sp_locks.specs.Soundness.{In, Before, WaitOnce, IsSound}
-use Rattle.sp_locks.proofs.Members.{in-left, in-right, in-split, in-kept, of_kept, of_any, to_any, any-append, before-in, before-kept, before-filtered, numbers-same, numbers-tell, numbers-apart, first_of_both, second_of_both, both}
+use Rattle.sp_locks.proofs.Members.{in-left, in-right, in-split, in-kept, of_kept, of_any, to_any, any-append, before-in, before-kept, before-filtered, numbers-same, numbers-tell, second_of_both, both}
 use Rattle.sp_locks.proofs.Compatibility.{Made, New, Raised, in-with_lock, is-lock}
-use Rattle.sp_locks.proofs.Once.{waiters, waiters-append, waiters-with_lock, waits-same, once-without, once-locked, before-middle, waits-retried, once-retried}
+use Rattle.sp_locks.proofs.Once.{waiters, waiters-append, waiters-with_lock, waits-same, once-without, once-locked, before-middle, waits-retried}
 use Rattle.sp_locks.proofs.OnNames.{released-on}
-use Rattle.sp_locks.proofs.Keeping.{in-name, in-table, one_name, once-on, found-waits, found-one, waiter-is, none-waits, waits-fewer, released-waits, release-sound}
+use Rattle.sp_locks.proofs.Keeping.{in-name, in-table, one_name, once-on, found-waits, found-one, waiter-is, none-waits, released-waits, release-sound}
 use Rattle.sp_waits.specs.Edges.{member, stopping, stopped_by, of_row, waits_of, once_waiting, Chain, Link, Then, Closes, NoCycle}
 use Rattle.sp_waits.specs.Search.{waits_for}
 use Rattle.sp_waits.proofs.Levelling.{or-cases, or-left, or-right}
 use Rattle.sp_waits.proofs.Telling.{same-edges}
+use Rattle.sp_waits.proofs.Waiting.{waits-are_for}
 
 joined : (edges : ℕ → List ℕ) (u v w : ℕ) → Chain edges u v → Chain edges v w → Chain edges u w
 joined edges u v w (Link h) d = Then v h d
@@ -67,10 +68,11 @@ module _ (rows : List Row) (s : ℕ) (name : Name) (mode : Mode) where
       go (inr (inl same, d)) = shut (subst (λ (x : ℕ). Chain edges s x) same d)
       go (inr (inr p, d)) = shut (joined edges s u s d p)
 
-pub wait-acyclic : (rows : List Row) (s : ℕ) (name : Name) (mode : Mode) → IsSound rows → waiting_in s rows ≡ None → NoCycle rows → (Closes rows s name mode → ⊥) → NoCycle (once_waiting s name mode rows)
-wait-acyclic rows s name mode sound awake none shut u c =
+pub wait-acyclic : (rows : List Row) (s : ℕ) (name : Name) (mode : Mode) (duration : Duration) → IsSound rows → waiting_in s rows ≡ None → NoCycle rows → (Closes rows s name mode → ⊥) → NoCycle (with_row_on (row_of s name mode duration true) rows)
+wait-acyclic rows s name mode duration sound awake none shut u c =
     let same = same-edges rows s name mode sound awake in
-    still-none rows s name mode none (λ d. shut (subst (λ (f : ℕ → List ℕ). Chain f s s) (sym same) d)) u (subst (λ (f : ℕ → List ℕ). Chain f u u) same c)
+    let now : waits_of (with_row_on (row_of s name mode duration true) rows) ≡ waits_for rows s name mode = (λ i v. waits-are_for rows s name mode duration sound awake v i) in
+    still-none rows s name mode none (λ d. shut (subst (λ (f : ℕ → List ℕ). Chain f s s) (sym same) d)) u (subst (λ (f : ℕ → List ℕ). Chain f u u) now c)
 
 -- who has an edge waits
 pub starts-waiting : (rows : List Row) (u v : ℕ) → member v (waits_of rows u) ≡ true → (r : Row) × (waiting_in u rows ≡ Some r) × (member v (stopped_by u r.name r.mode rows) ≡ true)
@@ -258,7 +260,7 @@ order-kept x y v w before rest b = steps-keep (λ zs. Before x y zs → Before x
         old (before-more x y r xs ys (before-filtered (λ z. z.waiting) x y (xs ++ ys) (subst (λ (zs : List Row). Before x y zs) (waiters-same xs ys r) (before-kept (λ z. z.waiting) x y (with_lock (granted r) xs ++ ys) c v w))))
 
 -- what one holds is not lost
-holds-with : (u : ℕ) (lock : Row) (xs : List Row) → holds_in u xs ≡ true → holds_in u (with_lock lock xs) ≡ true
+pub holds-with : (u : ℕ) (lock : Row) (xs : List Row) → holds_in u xs ≡ true → holds_in u (with_lock lock xs) ≡ true
 holds-with u lock [] h = absurd (true≢false (sym h))
 holds-with u lock (x ∷ xs) h = go (is_lock_of lock.session lock.duration x) (holds-with u lock xs)
   where

@@ -1,15 +1,15 @@
 -- Who waits for whom, as a list and as a relation.
-use Rattle.std.proofs.Common.{◌≡◌, ◌≢◌, ◌⊎◌, ℕ, Bool, true, false, nat_eq, List, Option, None, Some, refl, sym, ap, ◌∙◌, subst, inl, inr, true≢false}
+use Rattle.std.proofs.Common.{◌≡◌, ◌≢◌, ◌⊎◌, ℕ, Bool, true, false, List, Option, None, Some, refl, sym, ◌∙◌, subst, inl, inr, true≢false}
 use Rattle.sp_locks.specs.declared.row.Row.{Row}
 use Rattle.sp_locks.specs.Rows.{is_waiter, holds_in, waiting_in}
 use Rattle.sp_locks.specs.Table.{rows_on, held}
 use Rattle.sp_locks.specs.Modes.{compatible}
-use Rattle.sp_locks.specs.Soundness.{In, Before, IsSound}
+use Rattle.sp_locks.specs.Soundness.{In, IsSound}
 use Rattle.sp_locks.specs.Blocking.{is_compatible_with}
-use Rattle.sp_locks.proofs.Members.{before-in, numbers-same, numbers-tell, numbers-apart}
+use Rattle.sp_locks.proofs.Members.{before-in, numbers-tell, numbers-apart}
 use Rattle.sp_locks.proofs.Blocking.{held-against, against-held, holds-nothing, held-nothing}
-use Rattle.sp_locks.proofs.Keeping.{found-waits, waiter-is, in-name, once-on}
-use Rattle.sp_waits.specs.Edges.{member, stopping, stopped_by, of_row, waits_of}
+use Rattle.sp_locks.proofs.Keeping.{found-waits, in-name, once-on}
+use Rattle.sp_waits.specs.Edges.{member, stopped_by, of_row, waits_of}
 use Rattle.sp_waits.specs.Waiting.{WaitsBefore, WaitsFor}
 use Rattle.sp_waits.proofs.Acyclic.{starts-waiting, IsStopping, of_stopping, to_stopping, ahead-before, before-ahead}
 

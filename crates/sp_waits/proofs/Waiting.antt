@@ -3,6 +3,7 @@ use Rattle.std.proofs.Common.{◌≡◌, ◌≢◌, ℕ, Bool, true, false, not,
 use Rattle.sp_locks.specs.declared.mode.Mode.{Mode}
 use Rattle.sp_locks.specs.declared.row.Name.{Name}
 use Rattle.sp_locks.specs.declared.row.Row.{Row}
+use Rattle.sp_locks.specs.declared.row.Duration.{Duration}
 use Rattle.sp_locks.specs.declared.row.Duration.TheVariants.{Commit}
 use Rattle.sp_locks.specs.Modes.{compatible}
 use Rattle.sp_locks.specs.Rows.{same_name, is_held_by, is_waiter, stops, holds_in, waiting_in}
@@ -66,11 +67,11 @@ pub on-waiting : (r : Row) (rows : List Row) → r.waiting ≡ true → rows_on 
 on-waiting r rows w = with_row-on r rows ∙ rw w refl
 
 -- who waits for whom once s waits, by the table without that wait
-pub waits-are : (rows : List Row) (s : ℕ) (name : Name) (mode : Mode) → IsSound rows → waiting_in s rows ≡ None → (u : ℕ) → waits_of (once_waiting s name mode rows) u ≡ waits_for rows s name mode u
-waits-are rows s name mode sound awake u = go (nat_eq u s) refl
+pub waits-are_for : (rows : List Row) (s : ℕ) (name : Name) (mode : Mode) (duration : Duration) → IsSound rows → waiting_in s rows ≡ None → (u : ℕ) → waits_of (with_row_on (row_of s name mode duration true) rows) u ≡ waits_for rows s name mode u
+waits-are_for rows s name mode duration sound awake u = go (nat_eq u s) refl
   where
     r : Row
-    r = row_of s name mode Commit true
+    r = row_of s name mode duration true
 
     once : WaitOnce (with_row_on r rows)
     once = once-waiting r rows refl awake sound.once
@@ -102,3 +103,6 @@ waits-are rows s name mode sound awake u = go (nat_eq u s) refl
     go false e =
         let other : u ≢ s = (λ (k : u ≡ s). true≢false (sym (numbers-tell u s k) ∙ e)) in
         ap (of_row u (with_row_on r rows)) (wait-others u r rows refl other sound.once once) ∙ others other (waiting_in u rows) refl
+
+pub waits-are : (rows : List Row) (s : ℕ) (name : Name) (mode : Mode) → IsSound rows → waiting_in s rows ≡ None → (u : ℕ) → waits_of (once_waiting s name mode rows) u ≡ waits_for rows s name mode u
+waits-are rows s name mode sound awake u = waits-are_for rows s name mode Commit sound awake u

@@ -1,7 +1,5 @@
 -- Who waits for whom, in the words of the lock table's rules.
-use Rattle.std.specs.Prelude.{◌≡◌, ◌≢◌, ◌⊎◌, ℕ, true, false, List, Option, None, Some}
-use Rattle.sp_locks.specs.declared.mode.Mode.{Mode}
-use Rattle.sp_locks.specs.declared.row.Name.{Name}
+use Rattle.std.specs.Prelude.{◌≡◌, ◌≢◌, ◌⊎◌, ℕ, true, false, List, None, Some}
 use Rattle.sp_locks.specs.declared.row.Row.{Row}
 use Rattle.sp_locks.specs.Modes.{compatible}
 use Rattle.sp_locks.specs.Rows.{waiting_in}
