@@ -14,3 +14,5 @@ pub mod Spots
 pub mod Turns
 pub mod After
 pub mod Root
+pub mod Moves
+pub mod NewEntry

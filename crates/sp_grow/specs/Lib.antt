@@ -3,3 +3,4 @@ pub mod Members
 pub mod Insertion
 pub mod Grown
 pub mod Below
+pub mod Moves

@@ -9,28 +9,8 @@ use sp_rect::{Rect, Value};
 use std::alloc::{AllocError, Global};
 use std::test::Fail;
 
-type Corners = (i64, i64, i64, i64);
-
-// Two pairs far apart, and one between the first.
-const CLUSTERS: [Corners; 5] = [
-    (0, 0, 2, 2),
-    (8, 8, 10, 10),
-    (100, 0, 102, 2),
-    (108, 8, 110, 10),
-    (4, 4, 6, 6),
-];
-
-// Flat ones below, and two in a tall column.
-const COLUMN: [Corners; 5] = [
-    (0, 0, 2, 9),
-    (98, 0, 100, 9),
-    (50, 10, 51, 20),
-    (50, 990, 51, 1000),
-    (40, 0, 60, 9),
-];
-
-fn rect(corners: Corners) -> Result<Rect, &'static str> {
-    Rect::new(corners.0, corners.1, corners.2, corners.3).map_err(|_| "no rectangle")
+fn rect(x1: i64, y1: i64, x2: i64, y2: i64) -> Result<Rect, &'static str> {
+    Rect::new(x1, y1, x2, y2).map_err(|_| "no rectangle")
 }
 
 fn entry(alloc: Global, number: u64, rect: Rect) -> Result<Entry, &'static str>
@@ -82,11 +62,39 @@ fn empty(alloc: Global) -> Result<Tree, &'static str> {
     Tree::new(alloc, Shape { max: 4, min: 2 }).map_err(|_| "no memory")
 }
 
-// A tree of these rectangles, with numbers from 1.
-fn tree_of(alloc: Global, all: &[Corners]) -> Result<Tree, &'static str> {
+// Two pairs far apart.
+fn four_apart(alloc: Global) -> Result<Tree, &'static str> {
     let mut tree = empty(alloc)?;
-    for i in 0..all.len() {
-        put(alloc, &mut tree, i as u64 + 1, rect(all[i])?)?;
+    put(alloc, &mut tree, 1, rect(0, 0, 2, 2)?)?;
+    put(alloc, &mut tree, 2, rect(8, 8, 10, 10)?)?;
+    put(alloc, &mut tree, 3, rect(100, 0, 102, 2)?)?;
+    put(alloc, &mut tree, 4, rect(108, 8, 110, 10)?)?;
+    Ok(tree)
+}
+
+// Two pairs far apart, and one between the first.
+fn clusters(alloc: Global) -> Result<Tree, &'static str> {
+    let mut tree = four_apart(alloc)?;
+    put(alloc, &mut tree, 5, rect(4, 4, 6, 6)?)?;
+    Ok(tree)
+}
+
+// Flat ones below, and two in a tall column.
+fn column(alloc: Global) -> Result<Tree, &'static str> {
+    let mut tree = empty(alloc)?;
+    put(alloc, &mut tree, 1, rect(0, 0, 2, 9)?)?;
+    put(alloc, &mut tree, 2, rect(98, 0, 100, 9)?)?;
+    put(alloc, &mut tree, 3, rect(50, 10, 51, 20)?)?;
+    put(alloc, &mut tree, 4, rect(50, 990, 51, 1000)?)?;
+    put(alloc, &mut tree, 5, rect(40, 0, 60, 9)?)?;
+    Ok(tree)
+}
+
+// Five equal ones.
+fn equal(alloc: Global) -> Result<Tree, &'static str> {
+    let mut tree = empty(alloc)?;
+    for i in 0..5u64 {
+        put(alloc, &mut tree, i + 1, rect(1, 1, 2, 2)?)?;
     }
     Ok(tree)
 }
@@ -119,58 +127,82 @@ fn push_members(found: &mut Vec<u64>, tree: &Tree, number: u64) -> Result<(), Al
     Ok(())
 }
 
-// The bounds that the root has of its children.
-fn bounds(alloc: Global, tree: &Tree) -> Result<Vec<Rect>, AllocError> {
-    let mut found = Vec::new(alloc);
-    if let Some(Node::Inner(children)) = tree.node(tree.root()) {
-        for child in children.as_slice() {
-            found.push(child.rect)?;
-        }
+// Whether the tree has this outline.
+fn is_outline(alloc: Global, tree: &Tree, wanted: &[u64]) -> Result<bool, AllocError> {
+    Ok(outline(alloc, tree)?.as_slice() == wanted)
+}
+
+// Whether these are the bounds that the root has of its two children.
+fn are_bounds(tree: &Tree, first: Rect, second: Rect) -> bool {
+    match tree.node(tree.root()) {
+        Some(Node::Inner(children)) => match children.as_slice() {
+            [a, b] => a.rect == first && b.rect == second,
+            _ => false,
+        },
+        _ => false,
     }
-    Ok(found)
 }
 
 #[test]
 fn five_records_split_the_root(rt: HostRuntime) -> Result<(), Fail> {
     let alloc = rt.alloc();
-    let clusters = tree_of(alloc, &CLUSTERS)?;
-    let halves = [rect((0, 0, 10, 10))?, rect((100, 0, 110, 10))?];
-    assert_eq!(rt; outline(alloc, &clusters)?.as_slice(), [3, 1, 1, 2, 5, 2, 3, 4, 3, 1, 2].as_slice());
-    assert_eq!(rt; bounds(alloc, &clusters)?.as_slice(), halves.as_slice());
-    let column = tree_of(alloc, &COLUMN)?;
-    let halves = [rect((0, 0, 100, 9))?, rect((50, 10, 51, 1000))?];
-    assert_eq!(rt; outline(alloc, &column)?.as_slice(), [3, 1, 1, 2, 5, 2, 3, 4, 3, 1, 2].as_slice());
-    assert_eq!(rt; bounds(alloc, &column)?.as_slice(), halves.as_slice());
-    let equal = tree_of(alloc, &[(1, 1, 2, 2); 5])?;
-    assert_eq!(rt; outline(alloc, &equal)?.as_slice(), [3, 1, 1, 3, 5, 2, 2, 4, 3, 1, 2].as_slice());
+    let tree = clusters(alloc)?;
+    assert_eq!(rt;
+        is_outline(alloc, &tree, &[3, 1, 1, 2, 5, 2, 3, 4, 3, 1, 2])?,
+        true
+    );
+    assert_eq!(rt;
+        are_bounds(&tree, rect(0, 0, 10, 10)?, rect(100, 0, 110, 10)?),
+        true
+    );
+    let tree = column(alloc)?;
+    assert_eq!(rt;
+        is_outline(alloc, &tree, &[3, 1, 1, 2, 5, 2, 3, 4, 3, 1, 2])?,
+        true
+    );
+    assert_eq!(rt;
+        are_bounds(&tree, rect(0, 0, 100, 9)?, rect(50, 10, 51, 1000)?),
+        true
+    );
+    let tree = equal(alloc)?;
+    assert_eq!(rt;
+        is_outline(alloc, &tree, &[3, 1, 1, 3, 5, 2, 2, 4, 3, 1, 2])?,
+        true
+    );
     Ok(())
 }
 
-// The numbers of the parts of the plan for the next entry.
-fn parts_for(
+// Whether the plan for an entry of this rectangle has parts of exactly these numbers.
+fn are_parts(
     alloc: Global,
     tree: &Tree,
     number: u64,
-    corners: Corners,
-) -> Result<Vec<u64>, &'static str> {
-    let plan = plan_of(alloc, tree, number, rect(corners)?)?;
+    rect: Rect,
+    wanted: &[u64],
+) -> Result<bool, &'static str> {
+    let plan = plan_of(alloc, tree, number, rect)?;
     let mut found = Vec::new(alloc);
     for part in plan.parts.as_slice() {
         found.push(part.number()).map_err(|_| "no memory")?;
     }
-    Ok(found)
+    Ok(found.as_slice() == wanted)
 }
 
 #[test]
 fn a_plan_has_the_nodes_that_differ(rt: HostRuntime) -> Result<(), Fail> {
     let alloc = rt.alloc();
-    let tree = tree_of(alloc, &CLUSTERS)?;
-    assert_eq!(rt; choose_leaf(&tree, &rect((5, 5, 6, 6))?), 1);
-    assert_eq!(rt; choose_leaf(&tree, &rect((55, 55, 56, 56))?), 2);
-    assert_eq!(rt; parts_for(alloc, &tree, 6, (5, 5, 6, 6))?.as_slice(), [1].as_slice());
-    assert_eq!(rt; parts_for(alloc, &tree, 6, (55, 55, 56, 56))?.as_slice(), [2, 3].as_slice());
-    let one_leaf = tree_of(alloc, &CLUSTERS[..4])?;
-    assert_eq!(rt; parts_for(alloc, &one_leaf, 5, CLUSTERS[4])?.as_slice(), [1, 2, 3].as_slice());
+    let tree = clusters(alloc)?;
+    let inside = rect(5, 5, 6, 6)?;
+    let beside = rect(55, 55, 56, 56)?;
+    assert_eq!(rt; choose_leaf(&tree, &inside), 1);
+    assert_eq!(rt; choose_leaf(&tree, &beside), 2);
+    assert_eq!(rt; are_parts(alloc, &tree, 6, inside, &[1])?, true);
+    assert_eq!(rt; are_parts(alloc, &tree, 6, beside, &[2, 3])?, true);
+    let tree = four_apart(alloc)?;
+    assert_eq!(rt;
+        are_parts(alloc, &tree, 5, rect(4, 4, 6, 6)?, &[1, 2, 3])?,
+        true
+    );
     Ok(())
 }
 
@@ -180,7 +212,7 @@ fn drawn(draw: u64) -> Result<Rect, &'static str> {
     let y = draw / 1000 % 1000;
     let wide = draw / 1000000 % 40;
     let high = draw / 40000000 % 40;
-    rect((x as i64, y as i64, (x + wide) as i64, (y + high) as i64))
+    rect(x as i64, y as i64, (x + wide) as i64, (y + high) as i64)
 }
 
 // The next draw of the generator of Park and Miller.
@@ -206,23 +238,37 @@ fn agrees(alloc: Global, tree: &Tree, rects: &[Rect], query: &Rect) -> Result<bo
     Ok(found.as_slice() == wanted.as_slice())
 }
 
-#[test]
-fn a_grown_tree_finds_what_a_filter_finds(rt: HostRuntime) -> Result<(), Fail> {
-    let alloc = rt.alloc();
+// Inserts so many drawn rectangles, and keeps them.
+fn grown(alloc: Global, count: u64, rects: &mut Vec<Rect>) -> Result<Tree, &'static str> {
     let mut tree = empty(alloc)?;
-    let mut rects = Vec::new(alloc);
     let mut draw = 7;
-    for i in 0..300u64 {
+    for i in 0..count {
         draw = next_draw(draw);
         let rect = drawn(draw)?;
         put(alloc, &mut tree, i + 1, rect)?;
-        rects.push(rect)?;
+        rects.push(rect).map_err(|_| "no memory")?;
     }
-    let mut all_agree = true;
-    for _ in 0..50 {
+    Ok(tree)
+}
+
+// Whether so many drawn searches find what a filter finds.
+fn all_agree(alloc: Global, tree: &Tree, rects: &[Rect], count: u64) -> Result<bool, &'static str> {
+    let mut draw = 11;
+    for _ in 0..count {
         draw = next_draw(draw);
-        all_agree &= agrees(alloc, &tree, &rects, &drawn(draw)?)?;
+        let query = drawn(draw)?;
+        if !agrees(alloc, tree, rects, &query).map_err(|_| "no memory")? {
+            return Ok(false);
+        }
     }
-    assert_eq!(rt; all_agree, true);
+    Ok(true)
+}
+
+#[test]
+fn a_grown_tree_finds_what_a_filter_finds(rt: HostRuntime) -> Result<(), Fail> {
+    let alloc = rt.alloc();
+    let mut rects = Vec::new(alloc);
+    let tree = grown(alloc, 300, &mut rects)?;
+    assert_eq!(rt; all_agree(alloc, &tree, &rects, 50)?, true);
     Ok(())
 }
