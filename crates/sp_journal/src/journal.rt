@@ -16,8 +16,8 @@ use std::alloc::AllocError;
 /// A journal over a disk: it writes the batches that are queued, one call of the disk at a time.
 #[derive(Drop)]
 pub struct Journal<D: Disk> {
-    disk: D,
-    work: Work,
+    pub(crate) disk: D,
+    pub(crate) work: Work,
 }
 
 // Writes length, payload and the next gate, which is closed, behind the closed gate.

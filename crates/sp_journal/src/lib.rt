@@ -4,6 +4,8 @@
 mod encode;
 mod frames;
 mod journal;
+#[cfg(test)]
+mod tests;
 mod types;
 mod work;
 
