@@ -7,7 +7,7 @@ use Rattle.sp_plain.specs.declared.change.Change.{Change}
 use Rattle.sp_journal.specs.Format.{u32_bytes, body_bytes, batch_bytes, commit_bytes, framed}
 use Rattle.sp_journal.proofs.Chunks.{length-u32}
 
-flat_push : (q : List (List Change)) (c : List Change) → flat_map commit_bytes (q ++ c ∷ []) ≡ flat_map commit_bytes q ++ commit_bytes c
+pub flat_push : (q : List (List Change)) (c : List Change) → flat_map commit_bytes (q ++ c ∷ []) ≡ flat_map commit_bytes q ++ commit_bytes c
 flat_push [] c = append-nil (commit_bytes c)
 flat_push (x ∷ q) c = ap (λ (l : List ℕ). commit_bytes x ++ l) (flat_push q c) ∙ sym (append_assoc (commit_bytes x) (flat_map commit_bytes q) (commit_bytes c))
 
