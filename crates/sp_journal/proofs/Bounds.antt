@@ -1,11 +1,10 @@
 -- How long changes are, and lists of changes that are ones of a journal.
-use Rattle.std.proofs.Common.{◌≡◌, ◌+◌, ◌*◌, ◌<◌, ◌≤◌, ℕ, ℤ, true, List, [], ◌∷◌, ◌++◌, length, take, get_or, IsTrue, refl, sym, ◌∙◌, ap, subst, arith, length-append, append_assoc}
+use Rattle.std.proofs.Common.{◌≡◌, ◌+◌, ◌*◌, ◌<◌, ◌≤◌, ℕ, ℤ, List, [], ◌∷◌, ◌++◌, length, take, get_or, IsTrue, sym, ◌∙◌, ap, subst, arith, length-append, append_assoc}
 use Rattle.std.specs.List.{flat_map}
 use Rattle.std.proofs.lemmas.List.{take_more, take_all}
 use Rattle.sp_rect.specs.Value.{is_value}
 use Rattle.std.specs.Int.{w32, cast_unsigned}
 use Rattle.sp_rect.specs.Plane.{Rectangle}
-use Rattle.sp_rect.specs.declared.record.Record.{Record}
 use Rattle.sp_plain.specs.declared.change.Change.{Change}
 use Rattle.sp_plain.specs.declared.change.Change.TheVariants.{Put, Drop, Set}
 use Rattle.sp_journal.specs.Format.{u32_bytes, u64_bytes, coordinate_bytes, rect_bytes, value_bytes, put_bytes, drop_bytes, set_bytes, change_bytes, commit_bytes, batch_bytes, IsChange, AllChanges, AllCommits, IsCommit}

@@ -1,5 +1,5 @@
 -- Batches in the form in which they are written, one commit longer and without commits.
-use Rattle.std.proofs.Common.{◌≡◌, ◌+◌, ◌-◌, ◌≤◌, ℕ, suc, List, [], ◌∷◌, ◌++◌, length, take, drop, refl, sym, ◌∙◌, ap, arith, append_assoc, length-append, length-take, length-drop}
+use Rattle.std.proofs.Common.{◌≡◌, ◌+◌, ◌-◌, ◌≤◌, ℕ, List, [], ◌∷◌, ◌++◌, length, take, drop, refl, sym, ◌∙◌, ap, arith, append_assoc, length-append, length-take, length-drop}
 use Rattle.std.specs.List.{flat_map}
 use Rattle.std.proofs.Common.{set}
 use Rattle.std.proofs.lemmas.List.{take_at, drop_at, set_at, append-nil}

@@ -1,12 +1,12 @@
 -- What stands at the front of bytes that were written.
-use Rattle.std.proofs.Common.{◌≡◌, ◌+◌, ◌-◌, ◌^◌, ◌<◌, ◌≤◌, ℕ, zero, suc, ℤ, pos, negsuc, ◌≤ℤ◌, Result, Ok, Err, true, false, w32, w64, to_z, of_z, List, [], ◌∷◌, ◌++◌, length, take, drop, get_or, refl, sym, ◌∙◌, ap, subst, arith, append_assoc, length-append}
-use Rattle.std.proofs.lemmas.List.{take_rest, drop_at, take_at, take_more, drop_more, append-nil}
+use Rattle.std.proofs.Common.{◌≡◌, ◌+◌, ◌-◌, ◌^◌, ◌<◌, ◌≤◌, ℕ, zero, suc, ℤ, pos, negsuc, ◌≤ℤ◌, Result, Ok, Err, true, false, w32, w64, to_z, of_z, List, [], ◌∷◌, ◌++◌, length, take, drop, get_or, refl, sym, ◌∙◌, ap, arith, append_assoc, length-append}
+use Rattle.std.proofs.lemmas.List.{take_rest, drop_at, take_more, drop_more, append-nil}
 use Rattle.std.specs.List.{flat_map}
 use Rattle.std.proofs.lemmas.Int.{ints, to_z-of_z}
 use Rattle.std.specs.Int.{cast_signed, cast_unsigned}
 use mir.Val.{SFits}
 use Rattle.sp_rect.specs.Plane.{Rectangle, IsRectangle, is_rectangle, is_interval, made_rectangle, lowest, highest}
-use Rattle.std.specs.Prelude.{int_le, Option, Some, None, ◌≢◌}
+use Rattle.std.specs.Prelude.{int_le, Some, None, ◌≢◌}
 use Rattle.sp_rect.specs.declared.record.Record.{Record}
 use Rattle.sp_plain.specs.declared.change.Change.{Change}
 use Rattle.sp_plain.specs.declared.change.Change.TheVariants.{Put, Drop, Set}

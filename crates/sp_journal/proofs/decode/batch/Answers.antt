@@ -1,4 +1,4 @@
-use Rattle.std.proofs.Common.{◌≡◌, ◌++◌, [], length, sym, ◌∙◌, rules}
+use Rattle.std.proofs.Common.{◌≡◌, ◌++◌, [], length, ◌∙◌, rules}
 use Rattle.std.specs.List.{flat_map}
 use Rattle.sp_journal.specs.declared.decode.Unread.TheVariants.{Memory}
 use Rattle.sp_journal.specs.Format.{commit_bytes}

@@ -1,5 +1,4 @@
-use Rattle.std.proofs.Common.{◌≡◌, ◌≢◌, ℕ, ap, sym, ◌∙◌, refl, subst, arith, rules}
-use Rattle.sp_plain.specs.declared.change.Change.TheVariants.{Put, Drop, Set}
+use Rattle.std.proofs.Common.{ap, sym, ◌∙◌, subst, rules}
 use Rattle.sp_journal.specs.Format.{IsChange}
 use Rattle.sp_journal.specs.Reading.{Gives}
 use Rattle.sp_journal.proofs.Readers.{no_err, ok_same, tag, behind_tag, tagged, is_put, is_drop, is_set, no_other}

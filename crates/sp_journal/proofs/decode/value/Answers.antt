@@ -1,4 +1,4 @@
-use Rattle.std.proofs.Common.{◌≡◌, ◌++◌, List, ℕ, length, sym, ◌∙◌, refl}
+use Rattle.std.proofs.Common.{◌++◌, length, ◌∙◌}
 use Rattle.sp_journal.specs.Format.{value_bytes}
 use Rattle.sp_journal.proofs.Readers.{no_err, ok_same, bad_value}
 use Rattle.sp_journal.proofs.decode.value.Goals as goal

@@ -1,7 +1,6 @@
-use Rattle.std.proofs.Common.{◌≡◌, sym, subst, ap, ◌∙◌, length, List, arith, refl}
+use Rattle.std.proofs.Common.{◌≡◌, sym, subst, ap, ◌∙◌, length, arith}
 use Rattle.std.proofs.lemmas.List.{take_all}
-use Rattle.sp_plain.specs.declared.change.Change.{Change}
-use Rattle.sp_journal.specs.Format.{u32_bytes, AllCommits, IsCommit}
+use Rattle.sp_journal.specs.Format.{AllCommits, IsCommit}
 use Rattle.sp_journal.proofs.Bounds.{commits_more, batch_more, batch_whole}
 use Rattle.sp_journal.proofs.Readers.{commit_at}
 use Rattle.sp_journal.proofs.encode.batch.Goals as goal
