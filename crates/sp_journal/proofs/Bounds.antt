@@ -1,14 +1,14 @@
 -- How long changes are, and lists of changes that are ones of a journal.
-use Rattle.std.proofs.Common.{◌≡◌, ◌+◌, ◌*◌, ◌<◌, ◌≤◌, ℕ, ℤ, true, List, [], ◌∷◌, ◌++◌, length, take, get_or, IsTrue, refl, sym, ◌∙◌, ap, subst, arith, length-append}
+use Rattle.std.proofs.Common.{◌≡◌, ◌+◌, ◌*◌, ◌<◌, ◌≤◌, ℕ, ℤ, List, [], ◌∷◌, ◌++◌, length, take, get_or, IsTrue, sym, ◌∙◌, ap, subst, arith, length-append, append_assoc}
 use Rattle.std.specs.List.{flat_map}
-use Rattle.std.proofs.lemmas.List.{take_more}
+use Rattle.std.proofs.lemmas.List.{take_more, take_all}
 use Rattle.sp_rect.specs.Value.{is_value}
 use Rattle.std.specs.Int.{w32, cast_unsigned}
 use Rattle.sp_rect.specs.Plane.{Rectangle}
-use Rattle.sp_rect.specs.declared.record.Record.{Record}
 use Rattle.sp_plain.specs.declared.change.Change.{Change}
 use Rattle.sp_plain.specs.declared.change.Change.TheVariants.{Put, Drop, Set}
-use Rattle.sp_journal.specs.Format.{u32_bytes, u64_bytes, coordinate_bytes, rect_bytes, value_bytes, put_bytes, drop_bytes, set_bytes, change_bytes, commit_bytes, IsChange, AllChanges, AllCommits, IsCommit}
+use Rattle.sp_journal.specs.Format.{u32_bytes, u64_bytes, coordinate_bytes, rect_bytes, value_bytes, put_bytes, drop_bytes, set_bytes, change_bytes, commit_bytes, batch_bytes, IsChange, AllChanges, AllCommits, IsCommit}
+use Rattle.sp_journal.proofs.Framing.{flat_push}
 use Rattle.sp_journal.proofs.Chunks.{value_short, length-u32, length-u64}
 
 all_push : (changes : List Change) (change : Change) → AllChanges changes → IsChange change → AllChanges (changes ++ change ∷ [])
@@ -48,3 +48,17 @@ length-changes (change ∷ changes) all = omega (arith, length-append (change_by
 pub length-commit : (changes : List Change) → AllChanges changes → length (commit_bytes changes) ≤ 4 + 90 * length changes
 unfolding commit_bytes
 length-commit changes all = omega (arith, length-append (u32_bytes (length changes)) (flat_map change_bytes changes), length-u32 (length changes), length-changes changes all)
+
+pub commits_more : (commits : List (List Change)) (i : ℕ) (commit : List Change) → i < length commits → commit ≡ get_or commits i commit → AllCommits (take i commits) → IsCommit commit → AllCommits (take (i + 1) commits)
+commits_more commits i commit lt at all is = subst AllCommits (sym (take_more commits i commit lt ∙ ap (λ d. take i commits ++ d ∷ []) (sym at))) (commits_push (take i commits) commit all is)
+
+pub batch_more : (commits : List (List Change)) (i : ℕ) (commit : List Change) (count out later : List ℕ) → i < length commits → commit ≡ get_or commits i commit
+    → out ≡ count ++ flat_map commit_bytes (take i commits) → later ≡ out ++ commit_bytes commit → later ≡ count ++ flat_map commit_bytes (take (i + 1) commits)
+batch_more commits i commit count out later lt at is now =
+    let more = take_more commits i commit lt ∙ ap (λ d. take i commits ++ d ∷ []) (sym at) in
+    now ∙ ap (λ (l : List ℕ). l ++ commit_bytes commit) is ∙ append_assoc count (flat_map commit_bytes (take i commits)) (commit_bytes commit)
+    ∙ ap (λ (l : List ℕ). count ++ l) (sym (flat_push (take i commits) commit) ∙ ap (λ l. flat_map commit_bytes l) (sym more))
+
+pub batch_whole : (commits shown : List (List Change)) (n : ℕ) (out : List ℕ) → shown ≡ commits → length shown ≤ n → out ≡ u32_bytes (length commits) ++ flat_map commit_bytes (take n shown) → out ≡ batch_bytes commits
+unfolding batch_bytes
+batch_whole commits shown n out show past is = is ∙ ap (λ l. u32_bytes (length commits) ++ flat_map commit_bytes l) (take_all n shown past ∙ show)

@@ -1,8 +1,8 @@
 -- Pieces of bytes put one behind the other, and how long they are.
-use Rattle.std.proofs.Common.{◌≡◌, ◌+◌, ◌*◌, ◌≤◌, ℕ, Bool, true, false, ◌&&◌, List, [], ◌∷◌, ◌++◌, length, refl, sym, ◌∙◌, ap, arith, append_assoc, length-append, tests, rules, leb}
+use Rattle.std.proofs.Common.{◌≡◌, ◌≤◌, ℕ, Bool, true, false, ◌&&◌, List, ◌++◌, length, refl, append_assoc, tests, rules, leb}
 use Rattle.byteorder.specs.Numbers.{length-bytes_high_first}
 use Rattle.sp_rect.specs.Value.{is_value}
-use Rattle.sp_journal.specs.Format.{u32_bytes, u64_bytes, coordinate_bytes}
+use Rattle.sp_journal.specs.Format.{u32_bytes, u64_bytes}
 
 pub four : (out a b c d a' b' c' d' o1 o2 o3 o4 : List ℕ) → o1 ≡ out ++ a' → o2 ≡ o1 ++ b' → o3 ≡ o2 ++ c' → o4 ≡ o3 ++ d' → a' ≡ a → b' ≡ b → c' ≡ c → d' ≡ d → o4 ≡ out ++ (((a ++ b) ++ c) ++ d)
 four out a b c d a' b' c' d' o1 o2 o3 o4 e1 e2 e3 e4 ea eb ec ed = rw (e4, e3, e2, e1, ea, eb, ec, ed) (simp append_assoc)

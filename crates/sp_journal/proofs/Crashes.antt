@@ -1,5 +1,5 @@
 -- What a stop leaves while an entry is written.
-use Rattle.std.proofs.Common.{◌≡◌, ◌≢◌, ◌⊎◌, inl, inr, ◌+◌, ◌<◌, ◌≤◌, min, max, ℕ, suc, List, [], ◌∷◌, ◌++◌, length, take, drop, get_or, Some, refl, sym, ◌∙◌, ap, subst, arith, append_assoc, length-append, length-take, take-append-drop}
+use Rattle.std.proofs.Common.{◌≡◌, ◌≢◌, ◌⊎◌, inl, inr, ◌+◌, ◌<◌, ◌≤◌, min, ℕ, List, [], ◌∷◌, ◌++◌, length, take, drop, get_or, Some, refl, sym, ◌∙◌, ap, subst, arith, append_assoc, length-append, take-append-drop}
 use Rattle.std.proofs.lemmas.List.{take_at, take-append-le, drop_at, drop_more}
 use Rattle.std.proofs.Math.ListN.{replicate}
 use Rattle.std.proofs.lemmas.Bool.{cases_eq}
@@ -7,9 +7,9 @@ use Rattle.sp_disk.specs.Files.{put, Torn}
 use Rattle.sp_rect.specs.declared.record.Record.{Record}
 use Rattle.sp_plain.specs.declared.change.Change.{Change}
 use Rattle.sp_plain.specs.Taking.{taken}
-use Rattle.sp_journal.specs.Format.{u32_bytes, u64_bytes, header_bytes, body_bytes, batch_bytes, checkpoint_bytes, entry_bytes, framed, IsBatch}
+use Rattle.sp_journal.specs.Format.{u32_bytes, u64_bytes, header_bytes, batch_bytes, entry_bytes, framed, IsBatch}
 use Rattle.sp_journal.specs.Recovery.{Base, IsBase, head, nothing, all_changes, with_batch, Leads, start, batch, checkpoint, Recovers, empty, closed, Holds}
-use Rattle.sp_journal.specs.Standing.{Ledger, applied, with_entry, IsBefore, IsAfter, IsBeforeOrAfter}
+use Rattle.sp_journal.specs.Standing.{Ledger, applied, with_entry, IsBeforeOrAfter}
 use Rattle.sp_journal.proofs.Chunks.{length-u32, length-u64}
 use Rattle.sp_journal.specs.declared.types.Recovered.{Recovered}
 

@@ -1,5 +1,5 @@
 -- Batches in the form in which they are written, one commit longer and without commits.
-use Rattle.std.proofs.Common.{◌≡◌, ◌+◌, ◌-◌, ◌≤◌, ℕ, suc, List, [], ◌∷◌, ◌++◌, length, take, drop, refl, sym, ◌∙◌, ap, arith, append_assoc, length-append, length-take, length-drop}
+use Rattle.std.proofs.Common.{◌≡◌, ◌+◌, ◌-◌, ◌≤◌, ℕ, List, [], ◌∷◌, ◌++◌, length, take, drop, refl, sym, ◌∙◌, ap, arith, append_assoc, length-append, length-take, length-drop}
 use Rattle.std.specs.List.{flat_map}
 use Rattle.std.proofs.Common.{set}
 use Rattle.std.proofs.lemmas.List.{take_at, drop_at, set_at, append-nil}
@@ -7,7 +7,7 @@ use Rattle.sp_plain.specs.declared.change.Change.{Change}
 use Rattle.sp_journal.specs.Format.{u32_bytes, body_bytes, batch_bytes, commit_bytes, framed}
 use Rattle.sp_journal.proofs.Chunks.{length-u32}
 
-flat_push : (q : List (List Change)) (c : List Change) → flat_map commit_bytes (q ++ c ∷ []) ≡ flat_map commit_bytes q ++ commit_bytes c
+pub flat_push : (q : List (List Change)) (c : List Change) → flat_map commit_bytes (q ++ c ∷ []) ≡ flat_map commit_bytes q ++ commit_bytes c
 flat_push [] c = append-nil (commit_bytes c)
 flat_push (x ∷ q) c = ap (λ (l : List ℕ). commit_bytes x ++ l) (flat_push q c) ∙ sym (append_assoc (commit_bytes x) (flat_map commit_bytes q) (commit_bytes c))
 

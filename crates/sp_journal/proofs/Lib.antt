@@ -4,4 +4,5 @@ mod Corner
 mod Crashes
 mod Framing
 mod Passing
+mod Readers
 mod Turning

@@ -1,5 +1,5 @@
 -- From one call of a disk to what a stop at any moment of it leaves.
-use Rattle.std.proofs.Common.{◌≡◌, ◌⊎◌, inl, inr, ◌+◌, ◌≤◌, ◌↔◌, ℕ, List, sym, subst, arith}
+use Rattle.std.proofs.Common.{◌≡◌, ◌⊎◌, inl, inr, ◌≤◌, ℕ, List, subst, arith}
 use Rattle.sp_disk.specs.Moments.{Passes, LeavesOnly}
 
 pub one_call : (before now : ℕ) (old new : ℕ → List ℕ → Type 0) (P : List ℕ → Type 0) → Passes before now old new

@@ -1,20 +1,17 @@
 -- What each call of the disk makes of a journal that stands.
-use Rattle.std.proofs.Common.{◌≡◌, ◌≢◌, ◌⊎◌, inl, inr, ◌+◌, ◌*◌, ◌^◌, ◌<◌, ◌≤◌, ℕ, suc, Bool, true, false, if◌then◌else◌, List, [], ◌∷◌, ◌++◌, length, Option, Some, None, refl, sym, ◌∙◌, ap, subst, arith, append_assoc, length-append}
-use Rattle.std.specs.List.{flat_map}
+use Rattle.std.proofs.Common.{◌≡◌, ◌≢◌, ◌+◌, ◌^◌, ◌≤◌, ℕ, Bool, true, false, List, [], ◌∷◌, ◌++◌, length, Some, None, refl, sym, ◌∙◌, ap, subst, arith, append_assoc, length-append}
 use Rattle.std.proofs.lemmas.List.{append-nil}
 use Rattle.sp_disk.specs.Files.{put, Torn}
 use Rattle.sp_rect.specs.declared.record.Record.{Record}
 use Rattle.sp_plain.specs.declared.change.Change.{Change}
 use Rattle.sp_plain.specs.Taking.{taken, can_change, left_by}
-use Rattle.sp_journal.specs.declared.types.Recovered.{Recovered}
-use Rattle.sp_journal.specs.declared.types.Call.{Call}
-use Rattle.sp_journal.specs.declared.types.Call.TheVariants.{Nothing, Wrote, Durable, Fault, Memory}
+use Rattle.sp_journal.specs.declared.types.Call.TheVariants.{Wrote, Durable}
 use Rattle.sp_journal.specs.declared.work.Phase.{Phase}
 use Rattle.sp_journal.specs.declared.work.Phase.TheVariants.{Ready, Written, Settled, Opened, Broken}
 use Rattle.sp_journal.specs.declared.work.Work.{Work}
-use Rattle.sp_journal.specs.Format.{u32_bytes, header_bytes, body_bytes, batch_bytes, framed, AllChanges, AllCommits, IsBatch}
-use Rattle.sp_journal.specs.Recovery.{Base, IsBase, head, all_changes, Recovers, Holds}
-use Rattle.sp_journal.specs.Standing.{Ledger, applied, with_entry, found_with, IsBefore, IsAfter, IsBeforeOrAfter, Lies, IsInFlight, IsNext, Stands, Keeps, turned, queued_behind}
+use Rattle.sp_journal.specs.Format.{u32_bytes, header_bytes, body_bytes, batch_bytes, framed, AllChanges}
+use Rattle.sp_journal.specs.Recovery.{Base, head, all_changes}
+use Rattle.sp_journal.specs.Standing.{Ledger, applied, with_entry, IsBefore, IsBeforeOrAfter, Lies, IsInFlight, IsNext, Stands, Keeps, turned, queued_behind}
 use Rattle.sp_journal.proofs.Bounds.{commits_push}
 use Rattle.sp_journal.proofs.Chunks.{length-u32}
 use Rattle.sp_journal.proofs.Crashes.{applied_is, closed_gate, any_gate, longer, opened, torn_behind, torn_gate, put_behind, put_gate}

@@ -1,5 +1,5 @@
 -- How a journal stands: what is written, what is in flight, what is queued, and what a stop may leave of it.
-use Rattle.std.specs.Prelude.{◌≡◌, ◌≢◌, ◌⊎◌, ◌<◌, ◌≤◌, ◌+◌, ◌^◌, ℕ, List, [], ◌∷◌, ◌++◌, length, Option, Some, unwrap_or}
+use Rattle.std.specs.Prelude.{◌≡◌, ◌≢◌, ◌⊎◌, ◌≤◌, ◌+◌, ℕ, List, [], ◌∷◌, ◌++◌, length, Some, unwrap_or}
 use Rattle.sp_rect.specs.declared.record.Record.{Record}
 use Rattle.sp_plain.specs.declared.change.Change.{Change}
 use Rattle.sp_plain.specs.Taking.{taken}
@@ -144,3 +144,8 @@ Answered phase Memory old new = new ≡ old
 -- The ledger with a commit more behind those that are queued.
 abbrev pub queued_behind : Ledger → List Change → Ledger
 queued_behind ledger changes = record { base = ledger.base; flight = ledger.flight; queued = ledger.queued ++ changes ∷ [] }
+
+-- What is queued after a call: the queue is empty once its batch has taken off.
+abbrev pub queued_after : Phase → Call → ℕ → ℕ
+queued_after Ready Wrote n = 0
+queued_after phase answer n = n

@@ -1,11 +1,12 @@
 // Changes as bytes.
-ghost use Rattle.std.specs.Prelude.{◌≡◌, ◌+◌, ◌*◌, ◌≤◌, ◌<◌, ◌^◌, ◌++◌, ◌∷◌, [], length, IfOk, OnOk, IsTrue};
+ghost use Rattle.std.specs.Prelude.{◌≡◌, ◌+◌, ◌*◌, ◌≤◌, ◌<◌, ◌^◌, ◌++◌, ◌∷◌, [], true, false, length, IfOk, IfSome, IfNone, OnOk, IsTrue};
 ghost use Rattle.std.specs.List.{flat_map};
 ghost use Rattle.sp_rect.specs.Plane.{IsRectangle};
 ghost use Rattle.sp_rect.specs.Value.{is_value};
-ghost use Rattle.sp_journal.specs.Format.{u32_bytes, u64_bytes, coordinate_bytes, rect_bytes, value_bytes, put_bytes, drop_bytes, set_bytes, change_bytes, commit_bytes, IsChange, AllChanges, IsPut};
+ghost use Rattle.sp_journal.specs.Format.{u32_bytes, u64_bytes, coordinate_bytes, rect_bytes, value_bytes, put_bytes, drop_bytes, set_bytes, change_bytes, commit_bytes, batch_bytes, IsChange, AllChanges, AllCommits, IsPut};
 
 use byteorder::{BigEndian, ByteOrder};
+use sp_list::Sequence;
 use sp_plain::{Change, Changes};
 use sp_rect::{Record, Rect, Value};
 use std::alloc::{AllocError, Global};
@@ -129,3 +130,38 @@ fn push_commit(out: &mut Vec<u8>, changes: &Changes) -> Result<(), AllocError>
     }
     Ok(())
 }
+
+/// The commits of a batch.
+pub type Commits = Sequence<Changes>;
+
+/// The payload of a batch of these commits. `None` comes exactly where they are none of a batch: where a
+/// commit has no change, or there are 2^32 of something.
+pub fn batch(alloc: Global, commits: &Commits) -> Result<Option<Vec<u8>>, AllocError>
+    ensures some { IfOk result (λ written. IfSome written (λ bytes. (bytes.items ≡ batch_bytes commits.now) × AllCommits commits.now × (length commits.now < 2 ^ 32))) }
+    ensures none { IfOk result (λ written. IfNone written (AllCommits commits.now → length commits.now < 2 ^ 32 → ⊥)) }
+{
+    if commits.len() > MOST {
+        return Ok(None);
+    }
+    let mut out = Vec::new(alloc);
+    push_u32(&mut out, commits.len() as u32)?;
+    for commit in commits.as_slice() {
+        if !has_changes(commit) {
+            return Ok(None);
+        }
+        push_commit(&mut out, commit)?;
+    }
+    Ok(Some(out))
+}
+
+// Whether a commit has at least one change, and as many as a count of four bytes holds.
+fn has_changes(commit: &Changes) -> bool
+    ensures yes { result ≡ true → (1 ≤ length commit.now) × (length commit.now < 2 ^ 32) }
+    ensures no { result ≡ false → 1 ≤ length commit.now → length commit.now < 2 ^ 32 → ⊥ }
+{
+    let count = commit.len();
+    1 <= count && count <= MOST
+}
+
+// The most that a count of four bytes holds.
+const MOST: usize = u32::MAX as usize;

@@ -4,7 +4,7 @@ ghost use Rattle.sp_disk.specs.Faults.{Rose};
 ghost use Rattle.sp_disk.specs.Moments.{LeavesOnly};
 ghost use Rattle.sp_plain.specs.Taking.{taken};
 ghost use Rattle.sp_journal.specs.Recovery.{all_changes};
-ghost use Rattle.sp_journal.specs.Standing.{Ledger, Stands, Keeps, Answered, MayLeave, turned, queued_behind};
+ghost use Rattle.sp_journal.specs.Standing.{Ledger, Stands, Keeps, Answered, MayLeave, turned, queued_behind, queued_after};
 ghost use Rattle.sp_rect.specs.declared.record.Record.{Record};
 
 use crate::Call;
@@ -16,8 +16,8 @@ use std::alloc::AllocError;
 /// A journal over a disk: it writes the batches that are queued, one call of the disk at a time.
 #[derive(Drop)]
 pub struct Journal<D: Disk> {
-    disk: D,
-    work: Work,
+    pub(crate) disk: D,
+    pub(crate) work: Work,
 }
 
 // Writes length, payload and the next gate, which is closed, behind the closed gate.
@@ -27,6 +27,9 @@ fn write_body<D: Disk>(disk: &mut D, work: &mut Work) -> Call
     ensures crash { (ledger : Ledger) → IsTrue (D.tells disk.old) → Stands (D.reads disk.old) (D.images disk.old (D.moment disk.old)) work.old ledger → LeavesOnly (D.moment disk.old) (D.moment disk.new) (D.images disk.old) (D.images disk.new) (MayLeave Phase.Ready ledger) }
     ensures stands { (ledger : Ledger) → IsTrue (D.tells disk.old) → Stands (D.reads disk.old) (D.images disk.old (D.moment disk.old)) work.old ledger → Stands (D.reads disk.new) (D.images disk.new (D.moment disk.new)) work.new (turned Phase.Ready result ledger) }
     ensures answer { Answered Phase.Ready result work.old work.new }
+    ensures changes { work.new.changes ≡ queued_after Phase.Ready result work.old.changes }
+    ensures commits { work.new.commits ≡ queued_after Phase.Ready result work.old.commits }
+    ensures fewer { work.new.changes ≤ work.old.changes }
     ensures later { D.faults disk.old ≤ D.faults disk.new }
     ensures fault { (at : ℕ) → result ≡ Call.Fault at → (Rose (D.faults disk.old) (D.faults disk.new)) }
     ensures memory { result ≡ Call.Memory → IsTrue (D.takes_memory disk.old) × (disk.new ≡ disk.old) }
@@ -52,6 +55,9 @@ fn settle_body<D: Disk>(disk: &mut D, work: &mut Work) -> Call
     ensures crash { (ledger : Ledger) → IsTrue (D.tells disk.old) → Stands (D.reads disk.old) (D.images disk.old (D.moment disk.old)) work.old ledger → LeavesOnly (D.moment disk.old) (D.moment disk.new) (D.images disk.old) (D.images disk.new) (MayLeave Phase.Written ledger) }
     ensures stands { (ledger : Ledger) → IsTrue (D.tells disk.old) → Stands (D.reads disk.old) (D.images disk.old (D.moment disk.old)) work.old ledger → Stands (D.reads disk.new) (D.images disk.new (D.moment disk.new)) work.new (turned Phase.Written result ledger) }
     ensures answer { Answered Phase.Written result work.old work.new }
+    ensures changes { work.new.changes ≡ queued_after Phase.Written result work.old.changes }
+    ensures commits { work.new.commits ≡ queued_after Phase.Written result work.old.commits }
+    ensures fewer { work.new.changes ≤ work.old.changes }
     ensures later { D.faults disk.old ≤ D.faults disk.new }
     ensures fault { (at : ℕ) → result ≡ Call.Fault at → (Rose (D.faults disk.old) (D.faults disk.new)) }
     ensures memory { result ≡ Call.Memory → IsTrue (D.takes_memory disk.old) × (disk.new ≡ disk.old) }
@@ -77,6 +83,9 @@ fn open_gate<D: Disk>(disk: &mut D, work: &mut Work) -> Call
     ensures crash { (ledger : Ledger) → IsTrue (D.tells disk.old) → Stands (D.reads disk.old) (D.images disk.old (D.moment disk.old)) work.old ledger → LeavesOnly (D.moment disk.old) (D.moment disk.new) (D.images disk.old) (D.images disk.new) (MayLeave Phase.Settled ledger) }
     ensures stands { (ledger : Ledger) → IsTrue (D.tells disk.old) → Stands (D.reads disk.old) (D.images disk.old (D.moment disk.old)) work.old ledger → Stands (D.reads disk.new) (D.images disk.new (D.moment disk.new)) work.new (turned Phase.Settled result ledger) }
     ensures answer { Answered Phase.Settled result work.old work.new }
+    ensures changes { work.new.changes ≡ queued_after Phase.Settled result work.old.changes }
+    ensures commits { work.new.commits ≡ queued_after Phase.Settled result work.old.commits }
+    ensures fewer { work.new.changes ≤ work.old.changes }
     ensures later { D.faults disk.old ≤ D.faults disk.new }
     ensures fault { (at : ℕ) → result ≡ Call.Fault at → (Rose (D.faults disk.old) (D.faults disk.new)) }
     ensures memory { result ≡ Call.Memory → IsTrue (D.takes_memory disk.old) × (disk.new ≡ disk.old) }
@@ -102,6 +111,9 @@ fn settle_gate<D: Disk>(disk: &mut D, work: &mut Work) -> Call
     ensures crash { (ledger : Ledger) → IsTrue (D.tells disk.old) → Stands (D.reads disk.old) (D.images disk.old (D.moment disk.old)) work.old ledger → LeavesOnly (D.moment disk.old) (D.moment disk.new) (D.images disk.old) (D.images disk.new) (MayLeave Phase.Opened ledger) }
     ensures stands { (ledger : Ledger) → IsTrue (D.tells disk.old) → Stands (D.reads disk.old) (D.images disk.old (D.moment disk.old)) work.old ledger → Stands (D.reads disk.new) (D.images disk.new (D.moment disk.new)) work.new (turned Phase.Opened result ledger) }
     ensures answer { Answered Phase.Opened result work.old work.new }
+    ensures changes { work.new.changes ≡ queued_after Phase.Opened result work.old.changes }
+    ensures commits { work.new.commits ≡ queued_after Phase.Opened result work.old.commits }
+    ensures fewer { work.new.changes ≤ work.old.changes }
     ensures later { D.faults disk.old ≤ D.faults disk.new }
     ensures fault { (at : ℕ) → result ≡ Call.Fault at → (Rose (D.faults disk.old) (D.faults disk.new)) }
     ensures memory { result ≡ Call.Memory → IsTrue (D.takes_memory disk.old) × (disk.new ≡ disk.old) }
@@ -127,6 +139,9 @@ fn step<D: Disk>(disk: &mut D, work: &mut Work) -> Call
     ensures crash { (ledger : Ledger) → IsTrue (D.tells disk.old) → Stands (D.reads disk.old) (D.images disk.old (D.moment disk.old)) work.old ledger → LeavesOnly (D.moment disk.old) (D.moment disk.new) (D.images disk.old) (D.images disk.new) (MayLeave work.old.phase ledger) }
     ensures stands { (ledger : Ledger) → IsTrue (D.tells disk.old) → Stands (D.reads disk.old) (D.images disk.old (D.moment disk.old)) work.old ledger → Stands (D.reads disk.new) (D.images disk.new (D.moment disk.new)) work.new (turned work.old.phase result ledger) }
     ensures answer { Answered work.old.phase result work.old work.new }
+    ensures changes { work.new.changes ≡ queued_after work.old.phase result work.old.changes }
+    ensures commits { work.new.commits ≡ queued_after work.old.phase result work.old.commits }
+    ensures fewer { work.new.changes ≤ work.old.changes }
     ensures nothing { work.old.phase ≡ Phase.Ready → work.old.commits ≡ 0 → result ≡ Call.Nothing }
     ensures still { result ≡ Call.Nothing → disk.new ≡ disk.old }
     ensures broken { work.old.phase ≡ Phase.Broken → (result ≡ Call.Fault work.old.end) × (disk.new ≡ disk.old) }
@@ -173,6 +188,9 @@ impl<D: Disk> Journal<D> {
         ensures crash { (ledger : Ledger) → IsTrue (D.tells self.old.disk) → Stands (D.reads self.old.disk) (D.images self.old.disk (D.moment self.old.disk)) self.old.work ledger → LeavesOnly (D.moment self.old.disk) (D.moment self.new.disk) (D.images self.old.disk) (D.images self.new.disk) (MayLeave self.old.work.phase ledger) }
         ensures stands { (ledger : Ledger) → IsTrue (D.tells self.old.disk) → Stands (D.reads self.old.disk) (D.images self.old.disk (D.moment self.old.disk)) self.old.work ledger → Stands (D.reads self.new.disk) (D.images self.new.disk (D.moment self.new.disk)) self.new.work (turned self.old.work.phase result ledger) }
         ensures answer { Answered self.old.work.phase result self.old.work self.new.work }
+        ensures changes { self.new.work.changes ≡ queued_after self.old.work.phase result self.old.work.changes }
+        ensures commits { self.new.work.commits ≡ queued_after self.old.work.phase result self.old.work.commits }
+        ensures fewer { self.new.work.changes ≤ self.old.work.changes }
         ensures nothing { self.old.work.phase ≡ Phase.Ready → self.old.work.commits ≡ 0 → result ≡ Call.Nothing }
         ensures still { result ≡ Call.Nothing → self.new.disk ≡ self.old.disk }
         ensures broken { self.old.work.phase ≡ Phase.Broken → (result ≡ Call.Fault self.old.work.end) × (self.new.disk ≡ self.old.disk) }

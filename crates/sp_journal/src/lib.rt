@@ -1,9 +1,13 @@
 //! The journal: commits on a disk that may stop at any moment.
 #![tactic(auto)]
 
+mod decode;
 mod encode;
 mod frames;
 mod journal;
+mod payload;
+#[cfg(test)]
+mod tests;
 mod types;
 mod work;
 

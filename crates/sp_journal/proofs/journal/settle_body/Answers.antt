@@ -1,6 +1,5 @@
-use Rattle.std.proofs.Common.{inl, length, ap, ◌∙◌, subst, ◌+◌, ℕ, List, ◌∷◌, []}
-use Rattle.sp_disk.specs.Files.{put, Torn}
-use Rattle.sp_journal.specs.Standing.{IsBefore, IsBeforeOrAfter}
+use Rattle.std.proofs.Common.{inl}
+use Rattle.sp_journal.specs.Standing.{IsBefore}
 use Rattle.sp_journal.proofs.Passing.{one_call}
 use Rattle.sp_journal.proofs.Turning.{written_leaves, body_settled, broken}
 use Rattle.sp_journal.proofs.journal.settle_body.Goals as goal

@@ -1,6 +1,5 @@
-use Rattle.std.proofs.Common.{inl, length, ap, ◌∙◌, subst, ◌+◌, ℕ, List, ◌∷◌, []}
-use Rattle.sp_disk.specs.Files.{put, Torn}
-use Rattle.sp_journal.specs.Standing.{IsBefore, IsBeforeOrAfter}
+use Rattle.std.proofs.Common.{ap}
+use Rattle.sp_journal.specs.Standing.{IsBeforeOrAfter}
 use Rattle.sp_journal.proofs.Passing.{one_call}
 use Rattle.sp_journal.proofs.Turning.{opened_leaves, landed, broken}
 use Rattle.sp_journal.proofs.journal.settle_gate.Goals as goal

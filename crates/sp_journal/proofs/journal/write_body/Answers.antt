@@ -1,6 +1,6 @@
-use Rattle.std.proofs.Common.{inl, length, ap, ◌∙◌, subst, ◌+◌, ℕ, List, ◌∷◌, []}
+use Rattle.std.proofs.Common.{inl, length, ap, ◌∙◌, subst, ◌+◌, ℕ, List}
 use Rattle.sp_disk.specs.Files.{put, Torn}
-use Rattle.sp_journal.specs.Standing.{IsBefore, IsBeforeOrAfter}
+use Rattle.sp_journal.specs.Standing.{IsBefore}
 use Rattle.sp_journal.proofs.Passing.{one_call}
 use Rattle.sp_journal.proofs.Turning.{ready_leaves, body_before, body_written, broken}
 use Rattle.sp_journal.proofs.journal.write_body.Goals as goal

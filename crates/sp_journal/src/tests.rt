@@ -1,0 +1,132 @@
+ghost use Rattle.std.specs.Prelude.{◌≡◌, IfOk, length};
+
+use crate::payload::read_batch;
+use crate::work::Work;
+use crate::{Call, Journal};
+use sp_disk::{Disk, DiskCall, MemDisk};
+use sp_plain::{Change, Changes};
+use sp_rect::{Record, Rect, Value};
+use std::alloc::Global;
+use std::test::Fail;
+
+// A new file: the header of version 2 and generation 1, and a closed gate.
+const NEW: [u8; 17] = *b"SPJL\0\0\0\x02\0\0\0\0\0\0\0\x01\0";
+
+// The same with one batch of one put: id 1, the point of the origin, value x.
+const ONE_PUT: [u8; 57] =
+    *b"SPJL\0\0\0\x02\0\0\0\0\0\0\0\x01\x01\0\0\0\x23\0\0\0\x01\0\0\0\x01\x01\0\0\0\0\0\0\0\x01\0\0\0\0\0\0\0\0\0\0\0\0\0\0\0\0\x01x\0";
+
+// One put of that id.
+fn one_put(alloc: Global, id: u64) -> Result<Changes, Fail>
+    ensures { IfOk result (λ changes. length changes ≡ 1) }
+{
+    let rect = Rect::new(0, 0, 0, 0)?;
+    let value = Value::new(alloc, b"x")?;
+    let mut changes = Changes::new(alloc);
+    changes.push(Change::Put(Record { id, rect, value }))?;
+    Ok(changes)
+}
+
+// A journal behind the header of a new file.
+fn new_journal(alloc: Global, fail: Vec<u64>) -> Result<Journal<MemDisk>, Fail>
+    ensures { IfOk result (λ journal. journal.work.changes ≡ 0) }
+{
+    let disk = MemDisk::new(alloc, NEW.to_vec(alloc)?, fail)?;
+    let work = Work::new(alloc, 16)?;
+    Ok(Journal { disk, work })
+}
+
+#[test]
+fn a_batch_is_body_sync_gate_sync(rt: HostRuntime) -> Result<(), Fail> {
+    let alloc = rt.alloc();
+    let mut journal = new_journal(alloc, Vec::new(alloc))?;
+    assert_eq!(rt; journal.next_call(), Call::Nothing);
+    journal.queue(&one_put(alloc, 1)?)?;
+    assert_eq!(rt; journal.next_call(), Call::Wrote);
+    assert_eq!(rt; journal.next_call(), Call::Wrote);
+    assert_eq!(rt; journal.next_call(), Call::Wrote);
+    assert_eq!(rt; journal.next_call(), Call::Durable(1));
+    assert_eq!(rt; journal.next_call(), Call::Nothing);
+    let disk = journal.detach();
+    assert_eq!(rt; disk.bytes(), ONE_PUT.as_slice());
+    let calls = disk.calls();
+    assert_eq!(rt; calls.len(), 4);
+    assert!(rt;
+        matches!(
+            &calls[0],
+            DiskCall::Write {
+                at: 17,
+                made: true,
+                ..
+            }
+        )
+    );
+    assert!(rt; matches!(&calls[1], DiskCall::Sync { made: true }));
+    assert!(rt;
+        matches!(
+            &calls[2],
+            DiskCall::Write {
+                at: 16,
+                made: true,
+                ..
+            }
+        )
+    );
+    assert!(rt; matches!(&calls[3], DiskCall::Sync { made: true }));
+    Ok(())
+}
+
+#[test]
+fn what_is_queued_in_flight_is_the_next_batch(rt: HostRuntime) -> Result<(), Fail> {
+    let alloc = rt.alloc();
+    let mut journal = new_journal(alloc, Vec::new(alloc))?;
+    journal.queue(&one_put(alloc, 1)?)?;
+    assert_eq!(rt; journal.next_call(), Call::Wrote);
+    journal.queue(&one_put(alloc, 2)?)?;
+    journal.queue(&one_put(alloc, 3)?)?;
+    for answer in [Call::Wrote, Call::Wrote, Call::Durable(1), Call::Wrote] {
+        assert_eq!(rt; journal.next_call(), answer);
+    }
+    for answer in [Call::Wrote, Call::Wrote, Call::Durable(2), Call::Nothing] {
+        assert_eq!(rt; journal.next_call(), answer);
+    }
+    Ok(())
+}
+
+#[test]
+fn a_payload_is_read_exactly(rt: HostRuntime) -> Result<(), Fail> {
+    let alloc = rt.alloc();
+    let payload = b"\0\0\0\x01\0\0\0\x01\x02\0\0\0\0\0\0\0\x07";
+    let commits = read_batch(alloc, payload).map_err(|_| "refused")?;
+    assert_eq!(rt; commits.len(), 1);
+    for bad in [
+        b"".as_slice(),
+        b"\0\0\0\0",
+        b"\0\0\0\x01\0\0\0\0",
+        b"\0\0\0\x01\0\0\0\x01\x02\0\0\0\0\0\0\0",
+        b"\0\0\0\x01\0\0\0\x01\x02\0\0\0\0\0\0\0\x07\0",
+        b"\xff\xff\xff\xff\0\0\0\x01\x02\0\0\0\0\0\0\0\x07",
+        b"\0\0\0\x01\0\0\0\x01\x04\0\0\0\0\0\0\0\x07",
+        b"\0\0\0\x01\0\0\0\x01\x03\0\0\0\0\0\0\0\x07\0",
+        b"\0\0\0\x01\0\0\0\x01\x03\0\0\0\0\0\0\0\x07\x01 ",
+    ] {
+        assert!(rt; read_batch(alloc, bad).is_err());
+    }
+    Ok(())
+}
+
+#[test]
+fn a_fault_stays_and_makes_no_call_any_more(rt: HostRuntime) -> Result<(), Fail> {
+    let alloc = rt.alloc();
+    for failing in 1..=4 {
+        let mut journal = new_journal(alloc, [failing].to_vec(alloc)?)?;
+        journal.queue(&one_put(alloc, 1)?)?;
+        for _ in 1..failing {
+            assert_eq!(rt; journal.next_call(), Call::Wrote);
+        }
+        assert_eq!(rt; journal.next_call(), Call::Fault(16));
+        assert_eq!(rt; journal.next_call(), Call::Fault(16));
+        assert_eq!(rt; journal.detach().calls().len() as u64, failing);
+    }
+    Ok(())
+}
