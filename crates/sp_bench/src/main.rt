@@ -12,6 +12,7 @@ use std::env;
 use std::process::ExitCode;
 
 const NO_WORK: u8 = 1;
+
 const NO_MEMORY: u8 = 2;
 
 // What a run counts.

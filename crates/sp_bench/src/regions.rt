@@ -6,6 +6,7 @@ use sp_region::minus;
 use std::alloc::{AllocError, Global};
 
 const SIDE: u64 = 10_000;
+
 const SIZE: i64 = 1_000;
 
 /// Takes so many random squares away from a great one, so many times. Counts the rectangles that are left

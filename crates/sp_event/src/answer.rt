@@ -43,7 +43,10 @@ pub enum Kind {
 #[derive(Drop)]
 pub enum Answer {
     /// A transaction is open; `seen` places were taken.
-    Began { txn: u64, seen: u64 },
+    Began {
+        txn: u64,
+        seen: u64,
+    },
     /// The operation is kept.
     Started,
     /// The lock is held, or none was asked.
@@ -73,7 +76,10 @@ pub enum Answer {
     /// One disk call of the batch was made.
     Wrote,
     /// The batch is on the disk: its commits have these places.
-    Durable { first: u64, count: u64 },
+    Durable {
+        first: u64,
+        count: u64,
+    },
     /// There is nothing to do.
     Nothing,
     /// The dead entry is removed.
