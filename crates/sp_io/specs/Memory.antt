@@ -11,6 +11,13 @@ bytes_left s = drop s.at s.bytes.items
 abbrev pub read_fault_count : MemSource → ℕ
 read_fault_count s = s.faults
 
+-- the numbers of the calls that are to fail
+abbrev pub failing_reads : MemSource → List ℕ
+failing_reads s = s.fail.items
+
+abbrev pub failing_writes : MemSink → List ℕ
+failing_writes s = s.fail.items
+
 -- the bytes that were taken
 abbrev pub bytes_taken : MemSink → List ℕ
 bytes_taken s = s.bytes.items
