@@ -1,8 +1,7 @@
 -- Where entries stand after an insertion.
-use Rattle.std.proofs.Common.{◌≡◌, ℕ, zero, suc, ◌+◌, ◌*◌, ◌<◌, ◌≤◌, ◌⊎◌, inl, inr, Bool, true, false, ◌||◌, List, [], ◌∷◌, ◌++◌, length, slice_get, Option, Some, None, refl, sym, ap, ap₂, ◌∙◌, subst, arith}
+use Rattle.std.proofs.Common.{◌≡◌, ℕ, zero, suc, ◌*◌, ◌<◌, ◌≤◌, ◌⊎◌, inl, inr, Bool, true, false, ◌||◌, List, [], ◌∷◌, ◌++◌, length, slice_get, Option, Some, refl, sym, ap, ◌∙◌, subst, arith}
 use Rattle.std.specs.Prelude.{nat_eq}
 use Rattle.std.specs.Option.{option_to_list}
-use Rattle.std.specs.List.{list_any}
 use Rattle.std.proofs.lemmas.List.{length-append, length-map}
 use Rattle.std.proofs.lemmas.List.Folds.{list_any-append}
 use Rattle.sp_rect.specs.Plane.{Rectangle}
@@ -18,7 +17,7 @@ use Rattle.sp_split.proofs.Members.{all_below, equal_from}
 use Rattle.sp_split.proofs.Positions.{split_positions}
 use Rattle.sp_split.proofs.Sizes.{sizes}
 use Rattle.sp_grow.specs.Members.{pick}
-use Rattle.sp_grow.specs.Insertion.{Outcome, one, two, with_outcome, IsNode, Settles, Grows}
+use Rattle.sp_grow.specs.Insertion.{Outcome, one, two, with_outcome, Settles, Grows}
 use Rattle.sp_grow.specs.Grown.{IsGrown, IsRoot}
 use Rattle.sp_grow.specs.Moves.{InLeaf, InLeafOf}
 

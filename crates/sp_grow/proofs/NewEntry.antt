@@ -1,35 +1,33 @@
 -- Where the new entry stands: in the leaf that is chosen, or that leaf gives an entry away.
-use Rattle.std.proofs.Common.{◌≡◌, ℕ, zero, suc, ◌+◌, ◌*◌, ◌<◌, ◌≤◌, ◌⊎◌, inl, inr, ℤ, ◌<ℤ◌, ◌≤ℤ◌, Bool, true, false, ◌||◌, List, [], ◌∷◌, ◌++◌, length, slice_get, Option, Some, None, refl, sym, ap, ◌∙◌, subst, arith}
+use Rattle.std.proofs.Common.{◌≡◌, ℕ, zero, suc, ◌+◌, ◌*◌, ◌<◌, ◌≤◌, ◌⊎◌, inl, inr, Bool, true, false, ◌||◌, List, [], ◌∷◌, ◌++◌, length, slice_get, Some, refl, sym, ap, ◌∙◌, subst, arith}
 use Rattle.std.specs.Prelude.{nat_eq}
-use Rattle.std.specs.List.{AllByRecursion, IsDistinct, list_any}
-use Rattle.std.specs.Option.{option_to_list}
+use Rattle.std.specs.List.{AllByRecursion, IsDistinct}
 use Rattle.std.proofs.lemmas.Int.{ints}
 use Rattle.std.proofs.lemmas.List.{length-append, length-map}
 use Rattle.std.proofs.lemmas.List.Folds.{list_any-append}
-use Rattle.std.proofs.lemmas.Map.Keys.{IsDistinct-head, IsDistinct-tail}
-use Rattle.sp_rect.specs.Plane.{Rectangle, area, growth}
+use Rattle.std.proofs.lemmas.Map.Keys.{IsDistinct-head}
+use Rattle.sp_rect.specs.Plane.{Rectangle}
 use Rattle.sp_node.specs.declared.node.Entry.{Entry}
 use Rattle.sp_node.specs.declared.node.Shape.{Shape}
 use Rattle.sp_node.specs.Among.{Among}
 use Rattle.sp_node.specs.Nested.{Body, Branch, rects, rect_of}
 use Rattle.sp_node.specs.Look.{look}
 use Rattle.sp_node.specs.Table.{Table, body_at, level_of, IsShape}
-use Rattle.sp_node.proofs.Among.{among_left, among_right, all_among}
+use Rattle.sp_node.proofs.Among.{among_right}
 use Rattle.sp_node.proofs.Lists.{all_unmap}
 use Rattle.sp_node.proofs.Update.{distinct_back}
-use Rattle.sp_split.specs.Split.{Splits, is_among}
+use Rattle.sp_split.specs.Split.{is_among}
 use Rattle.sp_split.proofs.Members.{self_equal, equal_from, or_left, or_true}
 use Rattle.std.proofs.lemmas.Bool.{cases_lt}
 use Rattle.sp_split.proofs.Positions.{split_positions}
 use Rattle.sp_split.proofs.Sizes.{sizes}
 use Rattle.sp_grow.specs.Members.{pick}
-use Rattle.sp_grow.specs.Chosen.{IsBetter, IsAsGood, IsChosen, Reaches, ReachesOf}
-use Rattle.sp_grow.specs.Insertion.{Outcome, one, two, with_outcome, IsNode, Settles, Grows}
-use Rattle.sp_grow.specs.Grown.{IsGrown, IsRoot}
+use Rattle.sp_grow.specs.Chosen.{IsBetter, IsAsGood, Reaches, ReachesOf}
+use Rattle.sp_grow.specs.Insertion.{Outcome, one, two, with_outcome, Settles, Grows}
+use Rattle.sp_grow.specs.Grown.{IsGrown}
 use Rattle.sp_grow.specs.Moves.{InLeaf, InLeafOf, Leaves}
-use Rattle.sp_grow.proofs.Counting.{Counted, grows_numbers}
-use Rattle.sp_grow.proofs.Numbers.{all_front, all_back}
-use Rattle.sp_grow.proofs.Moves.{InOutcome, settles_leaf, settles_above, in_with, in_tree, picked}
+use Rattle.sp_grow.proofs.Numbers.{all_back}
+use Rattle.sp_grow.proofs.Moves.{InOutcome, settles_above, in_with, in_tree, picked}
 
 -- no rectangle is better than one that is as good
 not_both : (q a b : Rectangle) → IsBetter q a b → IsAsGood q b a → ⊥

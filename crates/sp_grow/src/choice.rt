@@ -42,7 +42,10 @@ pub(crate) fn choose_child(children: &[Child], rect: &Rect) -> usize
     best
 }
 
-/// The leaf that the rectangle goes to.
+/// The leaf that an entry with this rectangle goes to: from the root down, at each node to the child that
+/// needs the least growth of area, of equal ones to the smallest, and of equal ones to the first.
+///
+/// Takes no memory. Costs the members of the nodes on one path.
 pub fn choose_leaf(tree: &Tree, rect: &Rect) -> u64
     ensures { ReachesOf tree.now.table rect.now result }
 {

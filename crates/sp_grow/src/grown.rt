@@ -88,6 +88,7 @@ fn raise(alloc: Global, step: Step) -> Result<Plan, AllocError>
     })
 }
 
+// The insertion of an entry that the caller keeps.
 fn plan(alloc: Global, tree: &Tree, entry: &Entry) -> Result<Plan, AllocError>
     requires fresh { leaf_with tree.now.table.nodes entry.now.number ≡ None }
     requires numbers { tree.now.table.next < 2 ^ 63 + 2 ^ 32 }
@@ -101,7 +102,17 @@ fn plan(alloc: Global, tree: &Tree, entry: &Entry) -> Result<Plan, AllocError>
     raise(alloc, step)
 }
 
-/// The insertion of an entry, as a plan.
+/// The insertion of an entry, as a plan: the nodes that it makes or changes, the root, and the next unused
+/// node number. `IsGrown` is its definition, on nested trees.
+///
+/// The entry goes to the end of the leaf that `choose_leaf` gives. A node with more than `max` members is
+/// split by `quadratic`: the first group keeps the node's number, the second gets the next one and stands at
+/// the end of the parent's list. A split root goes under a new root, with the number after that. Rectangles
+/// above are tightened.
+///
+/// The plan has exactly the nodes that differ, by ascending number, and at most 2h + 1 of them for a tree of
+/// h levels. The one error is want of memory, and the entry comes back with it. Costs the members of the
+/// nodes on one path, squared where a node is split.
 pub fn grow(alloc: Global, tree: &Tree, entry: Entry) -> Result<Plan, (Entry, AllocError)>
     requires fresh { leaf_with tree.now.table.nodes entry.number ≡ None }
     requires numbers { tree.now.table.next < 2 ^ 63 + 2 ^ 32 }

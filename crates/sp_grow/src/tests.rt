@@ -128,8 +128,9 @@ fn push_members(found: &mut Vec<u64>, tree: &Tree, number: u64) -> Result<(), Al
 }
 
 // Whether the tree has this outline.
-fn is_outline(alloc: Global, tree: &Tree, wanted: &[u64]) -> Result<bool, AllocError> {
-    Ok(outline(alloc, tree)?.as_slice() == wanted)
+fn is_outline(alloc: Global, tree: &Tree, wanted: &[u64]) -> Result<bool, &'static str> {
+    let found = outline(alloc, tree).map_err(|_| "no memory")?;
+    Ok(found.as_slice() == wanted)
 }
 
 // Whether these are the bounds that the root has of its two children.
@@ -143,32 +144,39 @@ fn are_bounds(tree: &Tree, first: Rect, second: Rect) -> bool {
     }
 }
 
+// The tree of two clusters: the leaf on the left keeps the number 1.
+fn clusters_split(alloc: Global) -> Result<bool, &'static str> {
+    let tree = clusters(alloc)?;
+    let left = rect(0, 0, 10, 10)?;
+    let right = rect(100, 0, 110, 10)?;
+    Ok(
+        are_bounds(&tree, left, right)
+            & is_outline(alloc, &tree, &[3, 1, 1, 2, 5, 2, 3, 4, 3, 1, 2])?,
+    )
+}
+
+// The tree of flat ones and a column.
+fn column_splits(alloc: Global) -> Result<bool, &'static str> {
+    let tree = column(alloc)?;
+    let flat = rect(0, 0, 100, 9)?;
+    let tall = rect(50, 10, 51, 1000)?;
+    Ok(
+        are_bounds(&tree, flat, tall)
+            & is_outline(alloc, &tree, &[3, 1, 1, 2, 5, 2, 3, 4, 3, 1, 2])?,
+    )
+}
+
+// Equal ones go to the leaves in turn.
+fn equal_ones_split(alloc: Global) -> Result<bool, &'static str> {
+    let tree = equal(alloc)?;
+    is_outline(alloc, &tree, &[3, 1, 1, 3, 5, 2, 2, 4, 3, 1, 2])
+}
+
 #[test]
 fn five_records_split_the_root(rt: HostRuntime) -> Result<(), Fail> {
-    let alloc = rt.alloc();
-    let tree = clusters(alloc)?;
-    assert_eq!(rt;
-        is_outline(alloc, &tree, &[3, 1, 1, 2, 5, 2, 3, 4, 3, 1, 2])?,
-        true
-    );
-    assert_eq!(rt;
-        are_bounds(&tree, rect(0, 0, 10, 10)?, rect(100, 0, 110, 10)?),
-        true
-    );
-    let tree = column(alloc)?;
-    assert_eq!(rt;
-        is_outline(alloc, &tree, &[3, 1, 1, 2, 5, 2, 3, 4, 3, 1, 2])?,
-        true
-    );
-    assert_eq!(rt;
-        are_bounds(&tree, rect(0, 0, 100, 9)?, rect(50, 10, 51, 1000)?),
-        true
-    );
-    let tree = equal(alloc)?;
-    assert_eq!(rt;
-        is_outline(alloc, &tree, &[3, 1, 1, 3, 5, 2, 2, 4, 3, 1, 2])?,
-        true
-    );
+    assert_eq!(rt; clusters_split(rt.alloc())?, true);
+    assert_eq!(rt; column_splits(rt.alloc())?, true);
+    assert_eq!(rt; equal_ones_split(rt.alloc())?, true);
     Ok(())
 }
 
@@ -188,21 +196,30 @@ fn are_parts(
     Ok(found.as_slice() == wanted)
 }
 
+// An entry inside the left leaf changes that leaf alone.
+fn inside_changes_one(alloc: Global, tree: &Tree) -> Result<bool, &'static str> {
+    let inside = rect(5, 5, 6, 6)?;
+    Ok((choose_leaf(tree, &inside) == 1) & are_parts(alloc, tree, 6, inside, &[1])?)
+}
+
+// An entry beside both changes the leaf that grows less, and the root above it.
+fn beside_changes_two(alloc: Global, tree: &Tree) -> Result<bool, &'static str> {
+    let beside = rect(55, 55, 56, 56)?;
+    Ok((choose_leaf(tree, &beside) == 2) & are_parts(alloc, tree, 6, beside, &[2, 3])?)
+}
+
+// A fifth entry splits the one leaf below a new root.
+fn fifth_makes_three(alloc: Global) -> Result<bool, &'static str> {
+    let tree = four_apart(alloc)?;
+    are_parts(alloc, &tree, 5, rect(4, 4, 6, 6)?, &[1, 2, 3])
+}
+
 #[test]
 fn a_plan_has_the_nodes_that_differ(rt: HostRuntime) -> Result<(), Fail> {
-    let alloc = rt.alloc();
-    let tree = clusters(alloc)?;
-    let inside = rect(5, 5, 6, 6)?;
-    let beside = rect(55, 55, 56, 56)?;
-    assert_eq!(rt; choose_leaf(&tree, &inside), 1);
-    assert_eq!(rt; choose_leaf(&tree, &beside), 2);
-    assert_eq!(rt; are_parts(alloc, &tree, 6, inside, &[1])?, true);
-    assert_eq!(rt; are_parts(alloc, &tree, 6, beside, &[2, 3])?, true);
-    let tree = four_apart(alloc)?;
-    assert_eq!(rt;
-        are_parts(alloc, &tree, 5, rect(4, 4, 6, 6)?, &[1, 2, 3])?,
-        true
-    );
+    let tree = clusters(rt.alloc())?;
+    assert_eq!(rt; inside_changes_one(rt.alloc(), &tree)?, true);
+    assert_eq!(rt; beside_changes_two(rt.alloc(), &tree)?, true);
+    assert_eq!(rt; fifth_makes_three(rt.alloc())?, true);
     Ok(())
 }
 
@@ -264,11 +281,15 @@ fn all_agree(alloc: Global, tree: &Tree, rects: &[Rect], count: u64) -> Result<b
     Ok(true)
 }
 
+// Grows a tree of so many, and searches it.
+fn grown_finds(alloc: Global, count: u64) -> Result<bool, &'static str> {
+    let mut rects = Vec::new(alloc);
+    let tree = grown(alloc, count, &mut rects)?;
+    all_agree(alloc, &tree, &rects, 50)
+}
+
 #[test]
 fn a_grown_tree_finds_what_a_filter_finds(rt: HostRuntime) -> Result<(), Fail> {
-    let alloc = rt.alloc();
-    let mut rects = Vec::new(alloc);
-    let tree = grown(alloc, 300, &mut rects)?;
-    assert_eq!(rt; all_agree(alloc, &tree, &rects, 50)?, true);
+    assert_eq!(rt; grown_finds(rt.alloc(), 300)?, true);
     Ok(())
 }
