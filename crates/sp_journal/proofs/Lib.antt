@@ -3,6 +3,7 @@ mod Chunks
 mod Corner
 mod Crashes
 mod Framing
+mod Pages
 mod Passing
 mod Readers
 mod Turning

@@ -234,3 +234,13 @@ pub fn batch(alloc: Global, payload: &[u8]) -> Result<Commits, Unread>
     let count = from.u32()?;
     Ok(commits(alloc, &mut from, count)?)
 }
+
+// A record, behind the byte that says put.
+fn record(alloc: Global, from: &mut Cursor<'_>) -> Result<Record, Unread>
+    ensures { (r : RecordOf) (rest : List ℕ) → IsPut r → from.old ≡ put_bytes r ++ rest → Gives r rest from.new result }
+{
+    match from.u8()? {
+        1 => put(alloc, from),
+        _ => Err(Unread::Bad),
+    }
+}
