@@ -3,6 +3,7 @@ use Rattle.std.proofs.Common.{◌≡◌, ◌⊎◌, inl, inr, ◌+◌, ◌<◌, 
 use Rattle.std.specs.List.{flat_map}
 use Rattle.std.proofs.lemmas.List.{take_more, take_all, drop_more, append-nil, get_or_default}
 use Rattle.sp_rect.specs.declared.record.Record.{Record}
+use Rattle.sp_rect.specs.Plane.{whole}
 use Rattle.sp_journal.specs.Format.{u32_bytes, u64_bytes, rect_bytes, value_bytes, put_bytes, checkpoint_bytes, IsPut}
 
 flat_put : (rs : List Record) (r : Record) → flat_map put_bytes (rs ++ r ∷ []) ≡ flat_map put_bytes rs ++ put_bytes r
@@ -37,8 +38,7 @@ checkpoint_whole rs shown n out show past is = is ∙ ap (λ l. (u32_bytes 0 ++ 
 pub next_record : (rs : List Record) (i : ℕ) (rest : List ℕ) (zero_record : Record) → ((k : ℕ) (d : Record) → k < length rs → IsPut (get_or rs k d)) → i < length rs
     → (r : Record) × IsPut r × (flat_map put_bytes (drop i rs) ++ rest ≡ put_bytes r ++ (flat_map put_bytes (drop (i + 1) rs) ++ rest)) × (take (i + 1) rs ≡ take i rs ++ r ∷ [])
 next_record rs i rest d all lt =
-    let r : Record = get_or rs i d in
-    (
+    let r : Record = get_or rs i d in (
       r,
       all i d lt,
       ap (λ l. flat_map put_bytes l ++ rest) (drop_more rs i d lt) ∙ append_assoc (put_bytes r) (flat_map put_bytes (drop (i + 1) rs)) rest,
@@ -52,3 +52,11 @@ put_parts r rest all is = is ∙ simp append_assoc
 pub checkpoint_parts : (rs : List Record) (all : List ℕ) → all ≡ checkpoint_bytes rs → all ≡ u32_bytes 0 ++ (u32_bytes (length rs) ++ (flat_map put_bytes rs ++ []))
 unfolding checkpoint_bytes
 checkpoint_parts rs all is = is ∙ append_assoc (u32_bytes 0) (u32_bytes (length rs)) (flat_map put_bytes rs) ∙ ap (λ (l : List ℕ). u32_bytes 0 ++ (u32_bytes (length rs) ++ l)) (sym (append-nil (flat_map put_bytes rs)))
+
+-- some record
+abbrev pub origin : Record
+origin = record { id = 0; rect = whole; value = [] }
+
+pub next_of : (rs : List Record) (i : ℕ) (rest : List ℕ) → ((k : ℕ) (d : Record) → k < length rs → IsPut (get_or rs k d)) → i < length rs
+    → (r : Record) × IsPut r × (flat_map put_bytes (drop i rs) ++ rest ≡ put_bytes r ++ (flat_map put_bytes (drop (i + 1) rs) ++ rest)) × (take (i + 1) rs ≡ take i rs ++ r ∷ [])
+next_of rs i rest all lt = next_record rs i rest origin all lt

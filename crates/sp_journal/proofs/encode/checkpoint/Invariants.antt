@@ -7,5 +7,5 @@ use Rattle.sp_journal.proofs.encode.checkpoint.Given as goal
 abbrev pub invariant-loop-member : goal.invariant-loop-member
 invariant-loop-member l = record {
   bytes : l.out.items ≡ (u32_bytes 0 ++ u32_bytes (length l.records)) ++ flat_map put_bytes (take l.member-index l.member-items);
-  valid : (k : ℕ) (d : Record) → k < l.member-index → IsPut (get_or l.member-items k d)
+  valid : (k : ℕ) (d : Record) → k < l.member-index → IsPut (get_or l.member-items k d);
 }
