@@ -1,4 +1,4 @@
-use Rattle.std.proofs.Common.{◌≡◌, ◌++◌, [], length, sym, ◌∙◌, arith, rules, refl}
+use Rattle.std.proofs.Common.{◌≡◌, ◌++◌, [], length, ◌∙◌, arith, rules}
 use Rattle.std.specs.List.{flat_map}
 use Rattle.sp_journal.specs.declared.decode.Unread.TheVariants.{Memory}
 use Rattle.sp_journal.specs.Format.{u32_bytes, put_bytes}

@@ -1,4 +1,4 @@
-use Rattle.std.proofs.Common.{◌≡◌, ◌++◌, ap, sym, ◌∙◌, rules}
+use Rattle.std.proofs.Common.{◌≡◌, ◌++◌, rules}
 use Rattle.sp_journal.specs.Format.{u64_bytes, rect_bytes, value_bytes}
 use Rattle.sp_journal.proofs.Readers.{no_err, ok_same}
 use Rattle.sp_journal.proofs.Pages.{put_parts}

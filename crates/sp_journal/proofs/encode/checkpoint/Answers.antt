@@ -1,5 +1,4 @@
-use Rattle.std.proofs.Common.{◌≡◌, sym, subst, ap, ◌∙◌, length, arith, below_more}
-use Rattle.sp_journal.specs.Format.{u32_bytes, IsPut}
+use Rattle.std.proofs.Common.{arith}
 use Rattle.sp_journal.proofs.Pages.{record_more, checkpoint_whole, valid_more, valid_same}
 use Rattle.sp_journal.proofs.encode.checkpoint.Goals as goal
 
