@@ -3,6 +3,8 @@ mod Chunks
 mod Corner
 mod Crashes
 mod Framing
+mod Making
+mod Pages
 mod Passing
 mod Readers
 mod Turning

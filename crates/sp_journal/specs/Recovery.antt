@@ -71,3 +71,17 @@ pub data Recovers (file : List ℕ) : Outcome → Type 0 where
   closed : (base : Base) (gate : ℕ) (tail : List ℕ) → 17 < length file → IsBase base → gate ≢ 1 → file ≡ head base ++ gate ∷ tail → Recovers file (Holds base.found)
   damaged : (base : Base) (rest : List ℕ) → 17 < length file → IsBase base → (HasEntry base.generation base.front base.found rest → ⊥) → file ≡ head base ++ 1 ∷ rest
       → Recovers file (Damaged (length (head base)))
+
+-- The file that a journal begins with: version 2, generation 1, and a closed gate.
+abbrev pub new_file : List ℕ
+new_file = header_bytes 2 1 ++ 0 ∷ []
+
+-- The file is made anew at opening: it is empty but for a creation that was not finished, or the writing of
+-- its first entry, a checkpoint, was not finished.
+pub data NeedsMaking (file : List ℕ) : Type 0 where
+  short : length file ≤ 17 → NeedsMaking file
+  unfinished : (generation gate : ℕ) (tail : List ℕ) → 2 ≤ generation → generation < 2 ^ 63 → gate ≢ 1 → file ≡ header_bytes 2 generation ++ gate ∷ tail → NeedsMaking file
+
+-- the file holds nothing
+abbrev pub HoldsNothing : List ℕ → Type 0
+HoldsNothing file = Recovers file (Holds nothing)

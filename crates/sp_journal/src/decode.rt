@@ -1,20 +1,20 @@
 // Bytes as changes. What is read is what it was written from; that the bytes are nothing else is tested
 // by writing it again.
-ghost use Rattle.std.specs.Prelude.{◌≡◌, ◌≤◌, ◌<◌, ◌^◌, ◌++◌, ◌∷◌, [], ℕ, ℤ, ◌≤ℤ◌, List, true, length, Ok, MatchResult, IsTrue};
+ghost use Rattle.std.specs.Prelude.{◌≡◌, ◌≤◌, ◌<◌, ◌^◌, ◌++◌, ◌∷◌, [], ℕ, ℤ, ◌≤ℤ◌, List, true, length, slice_index_or, Ok, MatchResult, IsTrue};
 ghost use Rattle.sp_rect.specs.Plane.{Rectangle, IsRectangle, lowest, highest};
 ghost use Rattle.sp_rect.specs.Value.{is_value};
 ghost use Rattle.sp_rect.specs.declared.record.Record.{Record as RecordOf};
 ghost use Rattle.sp_plain.specs.declared.change.Change.{Change as ChangeOf};
 ghost use Rattle.sp_plain.specs.declared.change.Change.TheVariants.{Put, Drop, Set};
 ghost use Rattle.std.specs.List.{flat_map};
-ghost use Rattle.sp_journal.specs.Format.{u32_bytes, u64_bytes, coordinate_bytes, rect_bytes, value_bytes, put_bytes, change_bytes, commit_bytes, batch_bytes, IsPut, IsChange, AllChanges, IsCommit, AllCommits, IsBatch};
+ghost use Rattle.sp_journal.specs.Format.{u32_bytes, u64_bytes, coordinate_bytes, rect_bytes, value_bytes, put_bytes, change_bytes, commit_bytes, batch_bytes, checkpoint_bytes, IsCheckpoint, IsPut, IsChange, AllChanges, IsCommit, AllCommits, IsBatch};
 ghost use Rattle.sp_list.specs.Emptiness.{is_empty};
 ghost use Rattle.sp_journal.specs.Reading.{Gives};
 
 use crate::encode::Commits;
 use byteorder::{BigEndian, ByteOrder};
 use sp_plain::{Change, Changes};
-use sp_rect::{Record, Rect, Value, ValueError};
+use sp_rect::{Record, Records, Rect, Value, ValueError};
 use std::alloc::{AllocError, AllocFailed, Global};
 use std::marker::Model;
 
@@ -233,4 +233,36 @@ pub fn batch(alloc: Global, payload: &[u8]) -> Result<Commits, Unread>
     let mut from = Cursor::new(payload);
     let count = from.u32()?;
     Ok(commits(alloc, &mut from, count)?)
+}
+
+// A record, behind the byte that says put.
+fn record(alloc: Global, from: &mut Cursor<'_>) -> Result<Record, Unread>
+    ensures { (r : RecordOf) (rest : List ℕ) → IsPut r → from.old ≡ put_bytes r ++ rest → Gives r rest from.new result }
+{
+    match from.u8()? {
+        1 => put(alloc, from),
+        _ => Err(Unread::Bad),
+    }
+}
+
+// That many records.
+fn records(alloc: Global, from: &mut Cursor<'_>, count: u32) -> Result<Records, Unread>
+    ensures { (rs : List RecordOf) (rest : List ℕ) → ((k : ℕ) (d : RecordOf) → k < length rs → IsPut (slice_index_or rs k d)) → length rs ≡ count → from.old ≡ flat_map put_bytes rs ++ rest → Gives rs rest from.new result }
+{
+    let mut read = Records::new(alloc);
+    for i in 0..count {
+        read.push(record(alloc, from)?)?;
+    }
+    Ok(read)
+}
+
+/// The records that a payload was written from, if it is a checkpoint. What it gives of other bytes is
+/// not said.
+pub fn checkpoint(alloc: Global, payload: &[u8]) -> Result<Records, Unread>
+    ensures { (rs : List RecordOf) → IsCheckpoint rs → payload.now ≡ checkpoint_bytes rs → MatchResult result (λ y. y ≡ rs) (λ e. e ≡ Unread.Memory) }
+{
+    let mut from = Cursor::new(payload);
+    let _zero = from.u32()?;
+    let count = from.u32()?;
+    Ok(records(alloc, &mut from, count)?)
 }

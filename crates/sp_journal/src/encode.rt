@@ -1,14 +1,15 @@
 // Changes as bytes.
-ghost use Rattle.std.specs.Prelude.{◌≡◌, ◌+◌, ◌*◌, ◌≤◌, ◌<◌, ◌^◌, ◌++◌, ◌∷◌, [], true, false, length, IfOk, IfSome, IfNone, OnOk, IsTrue};
+ghost use Rattle.std.specs.Prelude.{◌≡◌, ◌+◌, ◌*◌, ◌≤◌, ◌<◌, ◌^◌, ◌++◌, ◌∷◌, [], ℕ, true, false, length, slice_index_or, IfOk, IfSome, IfNone, OnOk, IsTrue};
 ghost use Rattle.std.specs.List.{flat_map};
 ghost use Rattle.sp_rect.specs.Plane.{IsRectangle};
 ghost use Rattle.sp_rect.specs.Value.{is_value};
-ghost use Rattle.sp_journal.specs.Format.{u32_bytes, u64_bytes, coordinate_bytes, rect_bytes, value_bytes, put_bytes, drop_bytes, set_bytes, change_bytes, commit_bytes, batch_bytes, IsChange, AllChanges, AllCommits, IsPut};
+ghost use Rattle.sp_rect.specs.declared.record.Record.{Record as RecordOf};
+ghost use Rattle.sp_journal.specs.Format.{u32_bytes, u64_bytes, coordinate_bytes, rect_bytes, value_bytes, put_bytes, drop_bytes, set_bytes, change_bytes, commit_bytes, batch_bytes, checkpoint_bytes, IsChange, AllChanges, AllCommits, IsPut};
 
 use byteorder::{BigEndian, ByteOrder};
 use sp_list::Sequence;
 use sp_plain::{Change, Changes};
-use sp_rect::{Record, Rect, Value};
+use sp_rect::{Record, Records, Rect, Value};
 use std::alloc::{AllocError, Global};
 
 /// Adds the number in four bytes.
@@ -152,6 +153,21 @@ pub fn batch(alloc: Global, commits: &Commits) -> Result<Option<Vec<u8>>, AllocE
         push_commit(&mut out, commit)?;
     }
     Ok(Some(out))
+}
+
+/// The payload of a checkpoint of these records.
+pub fn checkpoint(alloc: Global, records: &Records) -> Result<Vec<u8>, AllocError>
+    requires { length records.now < 2 ^ 32 }
+    ensures bytes { IfOk result (λ bytes. bytes.items ≡ checkpoint_bytes records.now) }
+    ensures valid { OnOk result ((k : ℕ) (d : RecordOf) → k < length records.now → IsPut (slice_index_or records.now k d)) }
+{
+    let mut out = Vec::new(alloc);
+    push_u32(&mut out, 0)?;
+    push_u32(&mut out, records.len() as u32)?;
+    for member in records.as_slice() {
+        push_put(&mut out, member)?;
+    }
+    Ok(out)
 }
 
 // Whether a commit has at least one change, and as many as a count of four bytes holds.

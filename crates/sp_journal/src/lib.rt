@@ -1,6 +1,7 @@
 //! The journal: commits on a disk that may stop at any moment.
 #![tactic(auto)]
 
+mod create;
 mod decode;
 mod encode;
 mod frames;

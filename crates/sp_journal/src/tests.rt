@@ -1,6 +1,7 @@
 ghost use Rattle.std.specs.Prelude.{◌≡◌, IfOk, length};
 
-use crate::payload::read_batch;
+use crate::create::create;
+use crate::payload::{read_batch, read_checkpoint};
 use crate::work::Work;
 use crate::{Call, Journal};
 use sp_disk::{Disk, DiskCall, MemDisk};
@@ -127,6 +128,42 @@ fn a_fault_stays_and_makes_no_call_any_more(rt: HostRuntime) -> Result<(), Fail>
         assert_eq!(rt; journal.next_call(), Call::Fault(16));
         assert_eq!(rt; journal.next_call(), Call::Fault(16));
         assert_eq!(rt; journal.detach().calls().len() as u64, failing);
+    }
+    Ok(())
+}
+
+#[test]
+fn a_file_is_made_anew(rt: HostRuntime) -> Result<(), Fail> {
+    let alloc = rt.alloc();
+    let mut disk = MemDisk::new(alloc, b"SPJL\0".to_vec(alloc)?, Vec::new(alloc))?;
+    create(&mut disk)?;
+    assert_eq!(rt; disk.bytes(), NEW.as_slice());
+    assert_eq!(rt; disk.calls().len(), 4);
+    Ok(())
+}
+
+#[test]
+fn a_checkpoint_is_read_exactly(rt: HostRuntime) -> Result<(), Fail> {
+    let alloc = rt.alloc();
+    let empty = b"\0\0\0\0\0\0\0\0";
+    assert_eq!(rt;
+        read_checkpoint(alloc, empty).map_err(|_| "refused")?.len(),
+        0
+    );
+    let one = b"\0\0\0\0\0\0\0\x01\x01\0\0\0\0\0\0\0\x01\0\0\0\0\0\0\0\0\0\0\0\0\0\0\0\0\x01x";
+    assert_eq!(rt;
+        read_checkpoint(alloc, one).map_err(|_| "refused")?.len(),
+        1
+    );
+    for bad in [
+        b"\0\0\0\x01\0\0\0\0".as_slice(),
+        b"\0\0\0\0\0\0\0",
+        b"\0\0\0\0\0\0\0\0\0",
+        b"\0\0\0\0\xff\xff\xff\xff\x01",
+        b"\0\0\0\0\0\0\0\x01\x02\0\0\0\0\0\0\0\x01",
+        b"\0\0\0\0\0\0\0\x01\x01\0\0\0\0\0\0\0\x01\0\0\0\x01\0\0\0\0\0\0\0\0\0\0\0\0\x01x",
+    ] {
+        assert!(rt; read_checkpoint(alloc, bad).is_err());
     }
     Ok(())
 }
