@@ -18,7 +18,7 @@ pub struct MemSource {
 }
 
 impl MemSource {
-    ghost use Rattle.sp_io.specs.Memory.{bytes_left, read_fault_count};
+    ghost use Rattle.sp_io.specs.Memory.{bytes_left, read_fault_count, failing_reads};
     ghost use Rattle.std.specs.Prelude.{◌≡◌, IfOk};
     ghost use Rattle.std.specs.List.{flat_map};
 
@@ -27,6 +27,7 @@ impl MemSource {
     pub fn new(alloc: Global, pieces: Vec<Vec<u8>>, fail: Vec<u64>) -> Result<MemSource, AllocError>
         ensures left { IfOk result (λ s. bytes_left s ≡ flat_map (λ piece. piece.items) pieces.items) }
         ensures faults { IfOk result (λ s. read_fault_count s ≡ 0) }
+        ensures failing { IfOk result (λ s. failing_reads s ≡ fail.items) }
     {
         let mut bytes = Vec::new(alloc);
         let mut ends = Vec::new(alloc);
@@ -104,13 +105,14 @@ pub struct MemSink {
 }
 
 impl MemSink {
-    ghost use Rattle.sp_io.specs.Memory.{bytes_taken, write_fault_count};
+    ghost use Rattle.sp_io.specs.Memory.{bytes_taken, write_fault_count, failing_writes};
     ghost use Rattle.std.specs.Prelude.{◌≡◌, [], IfOk};
 
     /// A sink whose calls of these numbers fail, counted from 1.
     pub fn new(alloc: Global, fail: Vec<u64>) -> Result<MemSink, AllocError>
         ensures taken { IfOk result (λ s. bytes_taken s ≡ []) }
         ensures faults { IfOk result (λ s. write_fault_count s ≡ 0) }
+        ensures failing { IfOk result (λ s. failing_writes s ≡ fail.items) }
     {
         Ok(MemSink {
             bytes: Vec::new(alloc),

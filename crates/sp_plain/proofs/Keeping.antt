@@ -26,7 +26,7 @@ ordered_written part v low (x ∷ xs) o =
     subst (λ (n : ℕ). (low ≤ n) × IsOrderedFrom (n + 1) (written part v xs)) (sym (same_id part v x (touches part x) refl)) (o.0, ordered_written part v (x.id + 1) xs o.1)
 
 -- none of the id among the rest, and another in front
-free_rest : (id : ℕ) (x : Record) (xs : List Record) (b : Bool) → eqb x.id id ≡ b → within (Id id) (x ∷ xs) ≡ [] → (eqb x.id id ≡ false) × (within (Id id) xs ≡ [])
+pub free_rest : (id : ℕ) (x : Record) (xs : List Record) (b : Bool) → eqb x.id id ≡ b → within (Id id) (x ∷ xs) ≡ [] → (eqb x.id id ≡ false) × (within (Id id) xs ≡ [])
 free_rest id x xs true e h = let f : x ∷ within (Id id) xs ≡ [] = rw e at h in cc
 free_rest id x xs false e h = (e, rw e at h)
 

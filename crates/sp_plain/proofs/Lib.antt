@@ -1,3 +1,4 @@
 pub mod Order
 pub mod Keeping
 pub mod Handing
+pub mod Leading

@@ -1,5 +1,5 @@
 // Records by ascending id in a vector: where one stands, and how the list is kept.
-ghost use Rattle.std.specs.Prelude.{◌≡◌, ℕ, ◌+◌, List, ◌≤◌, ◌<◌, ◌∷◌, [], not, is_some, IfSome, IfNone, IfOk, IfErr, OnOk, OnErr, if◌then◌else◌, length, replicate};
+ghost use Rattle.std.specs.Prelude.{◌≡◌, ℕ, ◌+◌, List, ◌≤◌, ◌<◌, ◌∷◌, [], not, is_some, IfSome, IfNone, IfOk, IfErr, OnOk, OnErr, OnSome, if◌then◌else◌, length, replicate};
 ghost use Rattle.std.specs.Vec.{vec_capacity};
 ghost use Rattle.sp_rect.specs.Store.{Id, Area, IsOrdered, within, without, written, with_value, with_record};
 ghost use Rattle.sp_plain.specs.Place.{place, StandsAt};
@@ -74,6 +74,7 @@ pub(crate) fn remove(records: &mut Vec<Record>, id: u64) -> Option<Record>
     ensures some { IfSome result (λ r. within (Id id) records.old.items ≡ r ∷ []) }
     ensures none { IfNone result (within (Id id) records.old.items ≡ []) }
     ensures after { records.new.items ≡ without (Id id) records.old.items }
+    ensures spare { OnSome result (length records.new.items < vec_capacity records.new) }
     ensures room { vec_capacity records.new ≡ vec_capacity records.old }
 {
     match search(records, id) {

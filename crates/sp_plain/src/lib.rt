@@ -4,8 +4,14 @@
 
 mod change;
 mod keep;
+mod laws;
 mod operate;
 mod plain;
+mod undo;
 
 pub use change::{Change, Changes};
+pub use laws::{changes_keep_order, operations_keep_order};
 pub use plain::Plain;
+
+#[cfg(test)]
+mod tests;

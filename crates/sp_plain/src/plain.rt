@@ -1,8 +1,9 @@
 // The plain store.
-ghost use Rattle.std.specs.Prelude.{◌≡◌, [], IfOk, is_ok, if◌then◌else◌};
+ghost use Rattle.std.specs.Prelude.{◌≡◌, [], Some, None, false, IfOk, OnErr, is_ok, if◌then◌else◌};
 ghost use Rattle.sp_rect.specs.Store.{IsOrdered, replied, after};
+ghost use Rattle.sp_plain.specs.Taking.{taken};
 
-use crate::operate;
+use crate::{Changes, operate, undo};
 use sp_rect::{Duplicate, Op, Record, Records, Reply};
 use std::alloc::{AllocError, Global};
 use std::marker::Model;
@@ -57,6 +58,22 @@ impl Plain {
         let reply = operate::run(self.alloc, &mut members, op);
         self.records = Records::from_vec(members);
         reply
+    }
+
+    /// Makes the changes in order, all or none. The answer is whether they can be made: it is false, and
+    /// the store as it was, exactly where some change of the list puts an id that is there, drops or sets
+    /// one that is not, or would make more than 1048576 records. Where there is no memory the store is as
+    /// it was. Costs what the changes cost one by one, and twice that where they can't be made: each
+    /// change that is made notes what takes it back.
+    pub fn take(&mut self, changes: &Changes) -> Result<bool, AllocError>
+        ensures made { IfOk result (λ made. taken changes.now self.old ≡ (if made then Some self.new else None)) }
+        ensures refused { IfOk result (λ made. made ≡ false → self.new ≡ self.old) }
+        ensures err { OnErr result (self.new ≡ self.old) }
+    {
+        let mut members = mem::replace(&mut self.records, Records::new(self.alloc)).into_vec();
+        let made = undo::make_all(self.alloc, &mut members, changes.as_slice());
+        self.records = Records::from_vec(members);
+        made
     }
 }
 

@@ -1,23 +1,20 @@
 -- What a whole run says, by how it ended.
-use Rattle.std.proofs.Common.{rules, ◌≡◌, ℕ, ◌<◌, ◌≤◌, ◌^◌, Bool, true, false, cond, not, List, [], ◌∷◌, ◌++◌, map, length, Option, Some, None, Result, refl, sym, ap, ◌∙◌, subst, arith}
+use Rattle.std.proofs.Common.{◌≡◌, ℕ, ◌≤◌, Bool, true, false, cond, not, List, [], ◌∷◌, ◌++◌, map, length, Option, None, refl, sym, ap, ◌∙◌, subst, arith}
 use Rattle.std.specs.Io.KnownBytes.{Appends}
-use Rattle.sp_rect.specs.Serial.{Serial}
 use Rattle.sp_text.specs.Grammar.{said}
 use Rattle.sp_text.specs.Lines.{lines, is_blank}
+use Rattle.sp_text.specs.declared.form.Form.TheVariants.{Play}
 use Rattle.sp_text.specs.Texts.{render}
-use Rattle.sp_text.specs.Transcripts.{heard, committed}
-use Rattle.sp_text.specs.declared.types.Said.{Said}
-use Rattle.sp_text.specs.declared.types.Bad.{Bad}
+use Rattle.sp_text.specs.Transcripts.{heard}
 use Rattle.sp_text.specs.declared.types.Item.{Item}
 use Rattle.sp_text.specs.declared.types.End.{End}
 use Rattle.sp_text.specs.declared.types.End.TheVariants.{Input, Usage, ReadFault, WriteFault, Memory as OutOfMemory, Long}
 use Rattle.sp_play.specs.declared.fault.Fault.{Fault}
 use Rattle.sp_play.specs.declared.fault.Fault.TheVariants.{Write, Memory}
 use Rattle.sp_play.specs.Session.{State, Plays, start}
-use Rattle.sp_play.specs.Hearing.{Goes, Stops, GoesThrough, GoesSoFar, StopsWithin, RunsTo, answered, cut_after, cut_whole}
-use Rattle.sp_play.specs.Script.{ReadsWhole, ReadsPart, ReadsTo, WritesTo, PlaysTo}
+use Rattle.sp_play.specs.Hearing.{GoesSoFar, StopsWithin, RunsTo, answered, cut_after}
+use Rattle.sp_play.specs.Script.{ReadsPart, ReadsTo, WritesTo, PlaysTo}
 use Rattle.sp_play.proofs.Goes.{answered-append}
-use Rattle.sp_play.proofs.Serial.{serial_from_plays}
 use Rattle.sp_play.proofs.Whole.{heard_whole}
 
 -- a run from the start
@@ -83,10 +80,10 @@ reads_to OutOfMemory left rest old new js t h = within Memory left rest old new 
 reads_to Usage left rest old new js t h = absurd h
 
 -- the items that were added are all
-written_all : (P : List ℕ → Type 0) (items js : List Item) → js ≡ [] ++ items → P (render items) → P (render js)
-written_all P items js e h = subst (λ x. P (render x)) (sym e) h
+written_all : (P : List ℕ → Type 0) (items js : List Item) → js ≡ [] ++ items → P (render Play items) → P (render Play js)
+written_all P items js e h = subst (λ x. P (render Play x)) (sym e) h
 
-pub writes_to : (end : End) (left rest old new : Option (List ℕ)) (js : List Item) (t : State) → Runs end left rest old js t new → WritesTo end old new (render js)
+pub writes_to : (end : End) (left rest old new : Option (List ℕ)) (js : List Item) (t : State) → Runs end left rest old js t new → WritesTo end old new (render Play js)
 writes_to Input left rest old new js t h = written_all (Appends old new) h.goes.items js h.goes.kept h.goes.written
 writes_to ReadFault left rest old new js t h = written_all (Appends old new) h.0.goes.items js h.0.goes.kept h.0.goes.written
 writes_to Long left rest old new js t h = written_all (Appends old new) h.0.goes.items js h.0.goes.kept h.0.goes.written

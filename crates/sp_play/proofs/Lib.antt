@@ -5,3 +5,4 @@ pub mod Whole
 pub mod Pieces
 pub mod Stops
 pub mod Ends
+pub mod Counts

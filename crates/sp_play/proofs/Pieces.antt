@@ -1,7 +1,7 @@
 -- A piece of a script after what was heard, and its end.
-use Rattle.std.proofs.Common.{◌≡◌, ℕ, List, [], ◌∷◌, ◌++◌, Option, sym, subst, ap, ◌∙◌}
+use Rattle.std.proofs.Common.{◌≡◌, ℕ, List, [], ◌∷◌, ◌++◌, Option, sym, subst}
 use Rattle.sp_text.specs.declared.types.Item.{Item}
-use Rattle.sp_play.specs.Session.{State, Plays}
+use Rattle.sp_play.specs.Session.{State}
 use Rattle.sp_text.specs.declared.types.End.{End}
 use Rattle.sp_play.specs.declared.fault.Fault.{Fault}
 use Rattle.sp_play.specs.declared.fault.Fault.TheVariants.{Write, Memory}

@@ -1,5 +1,5 @@
 -- The transactions that a session commits are serial.
-use Rattle.std.proofs.Common.{rules, ◌≡◌, ℕ, ◌+◌, ◌<◌, ◌≤◌, Bool, true, false, not, cond, eqb, List, [], ◌∷◌, ◌++◌, map, fold, filter, length, length-append, Option, Some, None, refl, sym, ap, ◌∙◌, subst, arith}
+use Rattle.std.proofs.Common.{◌≡◌, ℕ, ◌+◌, ◌<◌, ◌≤◌, not, cond, eqb, List, [], ◌∷◌, ◌++◌, map, fold, length, length-append, Option, Some, None, refl, sym, ap, ◌∙◌, subst, arith}
 use Rattle.sp_rect.specs.Store.{replied, after}
 use Rattle.sp_rect.specs.Serial.{records_after, RepliesAsPlain, after_all, SerialFrom, Serial}
 use Rattle.sp_rect.specs.declared.operation.Answered.{Answered}
@@ -10,7 +10,7 @@ use Rattle.sp_text.specs.Transcripts.{Ledger, of_others, of_session, with_pair, 
 use Rattle.sp_text.specs.declared.types.Command.{Command}
 use Rattle.sp_text.specs.declared.types.Command.TheVariants.{Begin, Do, Commit as CommitIt, Rollback}
 use Rattle.sp_text.specs.declared.types.Item.{Item}
-use Rattle.sp_text.specs.declared.types.Item.TheVariants.{Bad, Told}
+use Rattle.sp_text.specs.declared.types.Item.TheVariants.{Bad, Told, Stepped}
 use Rattle.sp_play.specs.Session.{State, Plays, step, start, begun, done, committed_at, rolled_back}
 
 -- one step more
@@ -144,6 +144,7 @@ turn_kept l s Rollback k = rollback_kept l s l.pending s.view refl refl k.opened
 plays_kept : (items : List Item) (l : Ledger) (s t : State) → Kept l s → Plays s items t → Serial [] (fold note l items).done
 plays_kept [] l s t k p = k.serial
 plays_kept (Bad session bad ∷ items) l s t k p = plays_kept items l s t k p
+plays_kept (Stepped event answer late ∷ items) l s t k p = absurd p
 plays_kept (Told session command answer late ∷ items) l s t k p =
     along (λ x. Serial [] (fold note x items).done) _ _
     (ap (λ n. noted l n command answer) p.0 ∙ ap (noted l 0 command) p.1)

@@ -1,23 +1,23 @@
 -- A script that stops at a fault.
-use Rattle.std.proofs.Common.{rules, ◌≡◌, ℕ, Bool, true, false, cond, List, [], ◌∷◌, ◌++◌, map, Option, Some, None, Result, Ok, Err, refl, sym, ap, ◌∙◌, subst, append_assoc}
+use Rattle.std.proofs.Common.{rules, ◌≡◌, ℕ, true, false, List, [], ◌∷◌, ◌++◌, map, Option, None, Result, Ok, Err, refl, sym, ap, ◌∙◌, subst, append_assoc}
 use Rattle.std.specs.Prelude.{IfErr, OnOk, IsErrOf}
 use Rattle.std.proofs.lemmas.List.Concat.{flat_map-append}
 use Rattle.std.specs.Io.KnownBytes.{Appends}
 use Rattle.sp_io.specs.Streams.{AppendsFront}
-use Rattle.sp_io.proofs.Known.{Appends-more, Appends-none}
+use Rattle.sp_io.proofs.Known.{Appends-more}
 use Rattle.sp_text.specs.Grammar.{said}
 use Rattle.sp_text.specs.Lines.{is_blank}
+use Rattle.sp_text.specs.declared.form.Form.TheVariants.{Play}
 use Rattle.sp_text.specs.Texts.{render, item_text}
 use Rattle.sp_text.specs.Transcripts.{heard}
 use Rattle.sp_text.specs.declared.types.Bad.{Bad as Reason}
 use Rattle.sp_text.specs.declared.types.Command.{Command}
-use Rattle.sp_text.specs.declared.types.Answer.{Answer}
 use Rattle.sp_text.specs.declared.types.Said.{Said}
 use Rattle.sp_text.specs.declared.types.Item.{Item}
-use Rattle.sp_text.specs.declared.types.Item.TheVariants.{Bad, Told}
+use Rattle.sp_text.specs.declared.types.Item.TheVariants.{Bad}
 use Rattle.sp_play.specs.declared.fault.Fault.{Fault}
 use Rattle.sp_play.specs.declared.fault.Fault.TheVariants.{Write, Memory}
-use Rattle.sp_play.specs.Session.{State, Plays, step, told}
+use Rattle.sp_play.specs.Session.{State, step, told}
 use Rattle.sp_play.specs.Hearing.{Goes, Stops, WrittenAt, KeptAt, answered}
 use Rattle.sp_play.proofs.Goes.{heard-append, Plays-append, answered-append, one_answered, render_one}
 
@@ -77,7 +77,7 @@ stops_after fault l m is js ks s t old mid new p q =
       );
       reached = q.reached;
       played = Plays-append p.items q.items s t q.reached p.played q.played;
-      written = subst W (sym (flat_map-append item_text p.items q.items)) (written_more fault old mid new _ _ p.written q.written);
+      written = subst W (sym (flat_map-append (item_text Play) p.items q.items)) (written_more fault old mid new _ _ p.written q.written);
     }
 
 -- further lines follow
@@ -99,7 +99,7 @@ pub stops_along : (fault : Fault) (l m : List (List ℕ)) (is js : List Item) (s
 stops_along fault l m is js s old new e h = let P : List (List ℕ) → Type 0 = λ x. Stops fault x is s old js new in subst P e h
 
 -- an item whose text was written in part
-front_of_one : (item : Item) (old new : Option (List ℕ)) → AppendsFront old new (item_text item) → AppendsFront old new (render (item ∷ []))
+front_of_one : (item : Item) (old new : Option (List ℕ)) → AppendsFront old new (item_text Play item) → AppendsFront old new (render Play (item ∷ []))
 front_of_one item old new h = let P : List ℕ → Type 0 = λ x. AppendsFront old new x in subst P (sym (render_one item)) h
 
 -- a bad line

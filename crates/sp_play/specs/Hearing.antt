@@ -1,10 +1,11 @@
 -- A script as it is heard byte by byte.
-use Rattle.std.specs.Prelude.{◌≡◌, ◌≤◌, ◌<◌, ◌^◌, ℕ, Bool, not, ◌==◌, List, [], ◌∷◌, ◌++◌, map, filter, fold, nat_lt, length, Option, if◌then◌else◌}
+use Rattle.std.specs.Prelude.{◌≡◌, ◌≤◌, ◌<◌, ◌^◌, ℕ, not, ◌==◌, List, [], ◌∷◌, ◌++◌, map, filter, fold, nat_lt, length, Option, if◌then◌else◌}
 use Rattle.std.specs.Str.Lines.{strip_carriage_return}
-use Rattle.std.specs.Io.KnownBytes.{Keeps, Appends, Consumes, IsAtEnd}
+use Rattle.std.specs.Io.KnownBytes.{Appends, Consumes, IsAtEnd}
 use Rattle.sp_io.specs.Streams.{AppendsFront}
 use Rattle.sp_text.specs.Grammar.{said}
 use Rattle.sp_text.specs.Lines.{is_blank}
+use Rattle.sp_text.specs.declared.form.Form.TheVariants.{Play}
 use Rattle.sp_text.specs.Texts.{render, item_text}
 use Rattle.sp_text.specs.Transcripts.{heard}
 use Rattle.sp_text.specs.declared.types.Item.{Item}
@@ -48,7 +49,7 @@ pub record Goes (lines : List (List ℕ)) (before : List Item) (s : State) (old 
   pub kept : after ≡ before ++ items
   pub heard_as : heard items ≡ map said (answered lines)
   pub played : Plays s items t
-  pub written : Appends old new (render items)
+  pub written : Appends old new (render Play items)
 
 -- What was written of a text before a fault: all of it where memory ran out, a front of it where a write failed.
 abbrev pub WrittenAt : Fault → Option (List ℕ) → Option (List ℕ) → List ℕ → Type 0
@@ -57,7 +58,7 @@ WrittenAt Memory old new text = Appends old new text
 
 -- An item at a fault: where memory ran out it was neither kept nor written; where a write failed it was kept, and a front of its text written.
 abbrev pub KeptAt : Fault → List Item → List Item → Item → Option (List ℕ) → Option (List ℕ) → Type 0
-KeptAt Write before after item old new = (after ≡ before ++ item ∷ []) × AppendsFront old new (item_text item)
+KeptAt Write before after item old new = (after ≡ before ++ item ∷ []) × AppendsFront old new (item_text Play item)
 KeptAt Memory before after item old new = (after ≡ before) × Appends old new []
 
 -- Some first ones of these lines were answered, and then a fault came.
@@ -69,7 +70,7 @@ pub record Stops (fault : Fault) (lines : List (List ℕ)) (before : List Item) 
   pub heard_as : (front : List (List ℕ)) × (lines ≡ front ++ unanswered) × (heard items ≡ map said (answered front))
   pub reached : State
   pub played : Plays s items reached
-  pub written : WrittenAt fault old new (render items)
+  pub written : WrittenAt fault old new (render Play items)
 
 -- there are no more transactions and places than items
 pub record IsCounted (items : List Item) (s : State) : Type 0 where

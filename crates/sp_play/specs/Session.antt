@@ -5,11 +5,11 @@ use Rattle.sp_rect.specs.declared.record.Record.{Record}
 use Rattle.sp_rect.specs.declared.operation.Op.{Op}
 use Rattle.sp_text.specs.declared.types.Command.{Command}
 use Rattle.sp_text.specs.declared.types.Command.TheVariants.{Begin, Do, Commit, Rollback}
-use Rattle.sp_text.specs.declared.types.Answer.{Answer}
-use Rattle.sp_text.specs.declared.types.Answer.TheVariants.{Began, Reply, Committed, RolledBack, Refused}
-use Rattle.sp_text.specs.declared.types.Why.TheVariants.{InTxn, NoTxn}
+use Rattle.sp_event.specs.declared.answer.Answer.{Answer}
+use Rattle.sp_event.specs.declared.answer.Answer.TheVariants.{Began, Reply, Committed, RolledBack, Refused}
+use Rattle.sp_event.specs.declared.answer.Why.TheVariants.{InTxn, NoTxn}
 use Rattle.sp_text.specs.declared.types.Item.{Item}
-use Rattle.sp_text.specs.declared.types.Item.TheVariants.{Bad, Told}
+use Rattle.sp_text.specs.declared.types.Item.TheVariants.{Bad, Told, Stepped}
 
 -- the committed records, those that the open transaction sees, and how many transactions and places there were
 pub record State : Type 0 where
@@ -54,6 +54,7 @@ start = record { records = []; view = None; txns = 0; places = 0 }
 abbrev pub Plays : State → List Item → State → Type 0
 Plays s [] t = s ≡ t
 Plays s (Bad session bad ∷ items) t = Plays s items t
+Plays s (Stepped event answer late ∷ items) t = ⊥
 Plays s (Told session command answer late ∷ items) t =
     (session ≡ 0) × (answer ≡ (step s command).answer) × Plays (step s command).state items t
 

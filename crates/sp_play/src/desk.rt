@@ -5,13 +5,14 @@ ghost use Rattle.sp_io.specs.Faults.{Rose};
 ghost use Rattle.sp_text.specs.Lines.{is_blank};
 ghost use Rattle.sp_play.specs.Session.{start, step, told};
 ghost use Rattle.std.specs.Io.KnownBytes.{Appends};
+ghost use Rattle.sp_text.specs.declared.form.Form.TheVariants.{Play};
 ghost use Rattle.sp_text.specs.Texts.{item_text};
 ghost use Rattle.sp_play.specs.Hearing.{kept_more, cut_after, Goes, Stops, KeptAt, IsCounted};
 
 use crate::{Fault, Store};
 use sp_io::{Sink, write_all};
 use sp_rect::Text;
-use sp_text::{Command, Item, Items, TextError, push_item, read_line};
+use sp_text::{Command, Form, Item, Items, TextError, push_item, read_line};
 use std::alloc::Global;
 
 /// How many bytes of a line are kept: a longer one is bad or blank whatever follows.
@@ -145,7 +146,7 @@ impl Desk {
     fn tell<K: Sink>(&mut self, sink: &mut K, command: Command, late: bool) -> Result<(), Fault>
         requires { IsCounted self.old.items self.old.store }
         ensures items { OnOk result (self.new.items ≡ self.old.items ++ told command (step self.old.store command).answer late ∷ []) }
-        ensures written { OnOk result (Appends (K.taken sink.old) (K.taken sink.new) (item_text (told command (step self.old.store command).answer late))) }
+        ensures written { OnOk result (Appends (K.taken sink.old) (K.taken sink.new) (item_text Play (told command (step self.old.store command).answer late))) }
         ensures store { OnOk result (self.new.store ≡ (step self.old.store command).state) }
         ensures line { self.new.line ≡ self.old.line }
         ensures counted { OnOk result (IsCounted self.new.items self.new.store) }
@@ -172,7 +173,7 @@ impl Desk {
     // Keeps an item, and writes its text.
     fn keep<K: Sink>(&mut self, sink: &mut K, item: Item) -> Result<(), Fault>
         ensures items { OnOk result (self.new.items ≡ self.old.items ++ item ∷ []) }
-        ensures written { OnOk result (Appends (K.taken sink.old) (K.taken sink.new) (item_text item)) }
+        ensures written { OnOk result (Appends (K.taken sink.old) (K.taken sink.new) (item_text Play item)) }
         ensures store { self.new.store ≡ self.old.store }
         ensures line { self.new.line ≡ self.old.line }
         ensures stops { IfErr result (λ fault. KeptAt fault self.old.items self.new.items item (K.taken sink.old) (K.taken sink.new)) }
@@ -180,7 +181,7 @@ impl Desk {
         ensures failed { IsErrOf result Fault.Write → Rose (K.write_faults sink.old) (K.write_faults sink.new) }
     {
         self.text.clear();
-        if push_item(&mut self.text, &item).is_err() {
+        if push_item(&mut self.text, &item, Form::Play).is_err() {
             return Err(Fault::Memory);
         }
         if self.items.push(item).is_err() {

@@ -2,6 +2,7 @@
 ghost use Rattle.std.specs.Prelude.{◌≡◌, ◌≤◌, List, [], None};
 ghost use Rattle.sp_io.specs.Faults.{Rose};
 ghost use Rattle.sp_rect.specs.Serial.{Serial};
+ghost use Rattle.sp_text.specs.declared.form.Form.TheVariants.{Play};
 ghost use Rattle.sp_text.specs.Texts.{render};
 ghost use Rattle.sp_text.specs.Transcripts.{committed};
 ghost use Rattle.sp_play.specs.Hearing.{RunsTo, IsCounted, end_of};
@@ -24,7 +25,7 @@ const CHUNK: usize = 4096;
 /// the source has not ended. Costs what the operations cost on a plain store.
 pub fn play_script<S: Source, K: Sink>(alloc: Global, source: &mut S, sink: &mut K) -> Transcript
     ensures read { ReadsTo result.end (S.left source.old) (S.left source.new) result.items }
-    ensures written { WritesTo result.end (K.taken sink.old) (K.taken sink.new) (render result.items) }
+    ensures written { WritesTo result.end (K.taken sink.old) (K.taken sink.new) (render Play result.items) }
     ensures answers { PlaysTo result.end result.items }
     ensures serial { Serial [] (committed result.items) }
     ensures read_fault { result.end ≡ End.ReadFault → Rose (S.read_faults source.old) (S.read_faults source.new) }

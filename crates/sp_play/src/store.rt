@@ -2,9 +2,10 @@
 ghost use Rattle.std.specs.Prelude.{◌≡◌, ◌<◌, ◌+◌, ◌^◌, IfOk, OnErr, is_some};
 ghost use Rattle.sp_play.specs.Session.{State, begun, done, committed_at, rolled_back, step, start, turn};
 
+use sp_event::{Answer, Why};
 use sp_plain::Plain;
 use sp_rect::{Duplicate, Op};
-use sp_text::{Answer, Command, Why};
+use sp_text::Command;
 use std::alloc::{AllocError, Global};
 use std::marker::Model;
 

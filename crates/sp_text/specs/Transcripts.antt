@@ -1,21 +1,22 @@
 -- What a transcript says of the input, and of the transactions that were committed.
-use Rattle.std.specs.Prelude.{ℕ, Bool, true, false, not, ◌==◌, List, [], ◌∷◌, ◌++◌, map, filter, filter_map, fold, Result, Ok, Err, Option, Some, None, if◌then◌else◌}
+use Rattle.std.specs.Prelude.{ℕ, true, false, not, ◌==◌, List, [], ◌∷◌, ◌++◌, map, filter, fold, Result, Ok, Err}
 use Rattle.sp_rect.specs.declared.operation.Answered.{Answered}
 use Rattle.sp_rect.specs.declared.commit.Commit.{Commit}
 use Rattle.sp_text.specs.declared.types.Command.{Command}
-use Rattle.sp_text.specs.declared.types.Command.TheVariants.{Begin, Do, Commit as CommitIt, Rollback}
+use Rattle.sp_text.specs.declared.types.Command.TheVariants.{Do}
 use Rattle.sp_text.specs.declared.types.Said.{Said}
 use Rattle.sp_text.specs.declared.types.Bad.{Bad as Reason}
-use Rattle.sp_text.specs.declared.types.Answer.{Answer}
-use Rattle.sp_text.specs.declared.types.Answer.TheVariants.{Began, Reply as Replied, Committed, RolledBack, Refused}
+use Rattle.sp_event.specs.declared.answer.Answer.{Answer}
+use Rattle.sp_event.specs.declared.answer.Answer.TheVariants.{Began, Reply as Replied, Committed, RolledBack, Deadlock}
 use Rattle.sp_text.specs.declared.types.Item.{Item}
-use Rattle.sp_text.specs.declared.types.Item.TheVariants.{Bad, Told}
+use Rattle.sp_text.specs.declared.types.Item.TheVariants.{Bad, Told, Stepped}
 
 -- what an item says that its line said; a late item has no line
 abbrev pub heard_line : Item → List (Result Said Reason)
 heard_line (Bad session bad) = Err bad ∷ []
 heard_line (Told session command answer true) = []
 heard_line (Told session command answer false) = Ok (record { session = session; command = command }) ∷ []
+heard_line (Stepped event answer late) = []
 
 abbrev pub heard : List Item → List (Result Said Reason)
 heard [] = []
@@ -45,11 +46,13 @@ noted l s _ (Began txn seen) = record l { pending = record { session = s; txn = 
 noted l s (Do op) (Replied reply) = record l { pending = map (with_pair (record { op = op; reply = reply })) (of_session s l.pending) ++ of_others s l.pending }
 noted l s _ (Committed place) = record { pending = of_others s l.pending; done = l.done ++ map (with_place place) (of_session s l.pending) }
 noted l s _ RolledBack = record l { pending = of_others s l.pending }
+noted l s _ (Deadlock cycle) = record l { pending = of_others s l.pending }
 noted l s _ _ = l
 
 abbrev pub note : Ledger → Item → Ledger
 note l (Bad session bad) = l
 note l (Told session command answer late) = noted l session command answer
+note l (Stepped event answer late) = l
 
 abbrev pub ledger : List Item → Ledger
 ledger items = fold note (record { pending = []; done = [] }) items

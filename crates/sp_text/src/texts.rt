@@ -1,147 +1,280 @@
-// The texts of items.
-ghost use Rattle.std.specs.Prelude.{◌≡◌, ◌++◌, [], ◌∷◌, IfOk, OnOk, map, decimal, codes, length};
+// The texts of items and answers.
+ghost use Rattle.std.specs.Prelude.{◌≡◌, ◌++◌, [], ◌∷◌, IfOk, OnOk, map, decimal, codes, length, if◌then◌else◌};
 ghost use Rattle.std.specs.List.{flat_map};
-ghost use Rattle.std.specs.Fmt.{signed_decimal};
-ghost use Rattle.sp_text.specs.Texts.{spaced, corner_words, record_words, reply_words, answer_words, line_text, session_name, item_text, render};
+ghost use Rattle.sp_text.specs.Names.{session_word, mode_word, name_words};
+ghost use Rattle.sp_text.specs.Texts.{spaced, record_words, edge_words, wait_words, holder_words, later_words, durable_words, why_words, kind_words, reply_words, answer_words, line_text, lead_words, lead_of_event, item_text, render};
 
-use crate::{Answer, Item, Items, SessionId, Why};
-use sp_rect::{Record, Records, Rect, Reply, Text};
+use crate::names::{push_name, push_session};
+use crate::words::{
+    push_corners, push_lead, push_line, push_numbered, push_spaced, push_spaced_mode,
+    push_spaced_name, push_spaced_number, push_spaced_session,
+};
+use crate::{Form, Item, Items, Lead};
+use sp_event::{Answer, Event, Kind, Why};
+use sp_locks::{Mode, Name, SessionId, Sessions};
+use sp_rect::{Record, Records, Reply, Text};
+use sp_waits::{Cycle, Edge};
 use std::alloc::{AllocError, Global};
 
 /// The texts of all items, one after the other.
-pub fn render(alloc: Global, items: &Items) -> Result<Text, AllocError>
-    ensures { IfOk result (λ text. text ≡ render items.now) }
+pub fn render(alloc: Global, items: &Items, form: Form) -> Result<Text, AllocError>
+    ensures { IfOk result (λ text. text ≡ render form items.now) }
 {
     let mut text = Text::new(alloc);
     for item in items.as_slice() {
-        push_item(&mut text, item)?;
+        push_item(&mut text, item, form)?;
     }
     Ok(text)
 }
 
 /// Adds the lines of an item.
-#[tactic(auto, unfolding(crate::specs::Texts::item_text, crate::specs::Texts::line_text))]
-pub fn push_item(text: &mut Text, item: &Item) -> Result<(), AllocError>
-    ensures { OnOk result (text.new ≡ text.old ++ item_text item.now) }
+#[tactic(auto, unfolding(crate::specs::Texts::item_text))]
+pub fn push_item(text: &mut Text, item: &Item, form: Form) -> Result<(), AllocError>
+    ensures { OnOk result (text.new ≡ text.old ++ item_text form item.now) }
 {
     match item {
-        Item::Bad { .. } => text.push_str("? bad line\n"),
+        Item::Bad { .. } => push_line(text, form, Lead::Nobody, "bad line"),
         Item::Told {
             session,
             answer,
             ..
-        } => push_answer(text, *session, answer),
+        } => push_answer(text, form, Lead::Named(*session), answer),
+        Item::Stepped { event, answer, .. } => push_answer(
+            text,
+            form,
+            lead_of_event(event),
+            answer,
+        ),
     }
 }
 
-fn push_answer(text: &mut Text, session: SessionId, answer: &Answer) -> Result<(), AllocError>
-    ensures { OnOk result (text.new ≡ text.old ++ flat_map (line_text (session_name session)) (answer_words answer.now)) }
+fn lead_of_event(event: &Event) -> Lead
+    ensures { result ≡ lead_of_event event.now }
+{
+    match event {
+        Event::Begin(session)
+        | Event::Start(session, _)
+        | Event::Name(session)
+        | Event::Plan(session)
+        | Event::Ask(session)
+        | Event::Apply(session)
+        | Event::Commit(session)
+        | Event::Rollback(session) => Lead::Named(*session),
+        Event::Flush | Event::Clean => Lead::Kernel,
+    }
+}
+
+fn push_answer(text: &mut Text, form: Form, lead: Lead, answer: &Answer) -> Result<(), AllocError>
+    ensures { OnOk result (text.new ≡ text.old ++ flat_map (line_text (lead_words form lead)) (answer_words form answer.now)) }
 {
     match answer {
-        Answer::Began { seen, .. } => push_numbered(text, session, "began ", *seen),
-        Answer::Reply(reply) => push_reply(text, session, reply),
-        Answer::Committed(place) => push_numbered(text, session, "committed ", *place),
-        Answer::RolledBack => push_line(text, session, "rolledback"),
-        Answer::Refused(Why::InTxn) => push_line(text, session, "refused intxn"),
-        Answer::Refused(Why::NoTxn) => push_line(text, session, "refused notxn"),
+        Answer::Began { seen, .. } => push_numbered(text, form, lead, "began ", *seen),
+        Answer::Started => push_line(text, form, lead, "started"),
+        Answer::Granted => push_line(text, form, lead, "granted"),
+        Answer::Planned(count) => push_numbered(text, form, lead, "planned ", *count),
+        Answer::Reply(reply) => push_reply(text, form, lead, reply),
+        Answer::Committed(place) => push_numbered(text, form, lead, "committed ", *place),
+        Answer::Queued => push_line(text, form, lead, "queued"),
+        Answer::RolledBack => push_line(text, form, lead, "rolledback"),
+        Answer::Waits(name, mode, blockers) => push_wait(text, form, lead, *name, *mode, blockers),
+        Answer::Deadlock(cycle) => push_deadlock(text, form, lead, cycle),
+        Answer::Still(name) => push_still(text, form, lead, *name),
+        Answer::LatchBusy(holder) => push_latch(text, form, lead, *holder),
+        Answer::Refused(why) => push_line(text, form, lead, why_words(*why)),
+        Answer::Full(kind) => push_line(text, form, lead, kind_words(*kind)),
+        Answer::Wrote => push_line(text, form, lead, "wrote"),
+        Answer::Durable { first, count } => push_durable(text, form, lead, *first, *count),
+        Answer::Nothing => push_line(text, form, lead, "nothing"),
+        Answer::Removed(entry) => push_numbered(text, form, lead, "removed ", *entry),
+        Answer::Later {
+            granule,
+            holder,
+            mode,
+        } => push_later(text, form, lead, *granule, *holder, *mode),
+        Answer::Stopped(_) | Answer::DiskFault | Answer::Memory => Ok(()),
     }
 }
 
-fn push_reply(text: &mut Text, session: SessionId, reply: &Reply) -> Result<(), AllocError>
-    ensures { OnOk result (text.new ≡ text.old ++ flat_map (line_text (session_name session)) (reply_words reply.now)) }
+fn why_words(why: Why) -> &'static str
+    ensures { result.now ≡ why_words why }
+{
+    match why {
+        Why::InTxn => "refused intxn",
+        Why::NoTxn => "refused notxn",
+        Why::Busy => "refused busy",
+        Why::Phase => "refused phase",
+    }
+}
+
+fn kind_words(kind: Kind) -> &'static str
+    ensures { result.now ≡ kind_words kind }
+{
+    match kind {
+        Kind::Transactions => "full transactions",
+        Kind::Commits => "full commits",
+        Kind::Operations => "full operations",
+        Kind::History => "full history",
+        Kind::Replies => "full replies",
+        Kind::Entries => "full entries",
+        Kind::Numbers => "full numbers",
+    }
+}
+
+fn push_reply(text: &mut Text, form: Form, lead: Lead, reply: &Reply) -> Result<(), AllocError>
+    ensures { OnOk result (text.new ≡ text.old ++ flat_map (line_text (lead_words form lead)) (reply_words reply.now)) }
 {
     match reply {
-        Reply::Done => push_line(text, session, "done"),
-        Reply::Exists => push_line(text, session, "exists"),
-        Reply::Absent => push_line(text, session, "absent"),
-        Reply::Rec(record) => push_record(text, session, record),
-        Reply::Found(records) => push_found(text, session, records),
-        Reply::Count(count) => push_numbered(text, session, "count ", *count),
+        Reply::Done => push_line(text, form, lead, "done"),
+        Reply::Exists => push_line(text, form, lead, "exists"),
+        Reply::Absent => push_line(text, form, lead, "absent"),
+        Reply::Rec(found) => push_record(text, form, lead, found),
+        Reply::Found(records) => push_found(text, form, lead, records),
+        Reply::Count(count) => push_numbered(text, form, lead, "count ", *count),
     }
 }
 
-fn push_found(text: &mut Text, session: SessionId, records: &Records) -> Result<(), AllocError>
-    ensures { OnOk result (text.new ≡ text.old ++ flat_map (line_text (session_name session)) ((codes "found " ++ decimal (length records.now)) ∷ map record_words records.now)) }
+fn push_found(text: &mut Text, form: Form, lead: Lead, records: &Records) -> Result<(), AllocError>
+    ensures { OnOk result (text.new ≡ text.old ++ flat_map (line_text (lead_words form lead)) ((codes "found " ++ decimal (length records.now)) ∷ map record_words records.now)) }
 {
-    push_numbered(text, session, "found ", records.len() as u64)?;
-    for record in records.as_slice() {
-        push_record(text, session, record)?;
+    push_numbered(text, form, lead, "found ", records.len() as u64)?;
+    for found in records.as_slice() {
+        push_record(text, form, lead, found)?;
     }
     Ok(())
 }
 
 #[tactic(auto, unfolding(crate::specs::Texts::line_text, crate::specs::Texts::record_words))]
-fn push_record(text: &mut Text, session: SessionId, record: &Record) -> Result<(), AllocError>
-    ensures { OnOk result (text.new ≡ text.old ++ line_text (session_name session) (record_words record.now)) }
+fn push_record(text: &mut Text, form: Form, lead: Lead, found: &Record) -> Result<(), AllocError>
+    ensures { OnOk result (text.new ≡ text.old ++ line_text (lead_words form lead) (record_words found.now)) }
 {
-    push_name(text, session)?;
+    push_lead(text, form, lead)?;
     text.push_str("rec")?;
-    push_spaced_number(text, record.id)?;
-    push_corners(text, &record.rect)?;
-    push_spaced(text, record.value.bytes())?;
+    push_spaced_number(text, found.id)?;
+    push_corners(text, &found.rect)?;
+    push_spaced(text, found.value.bytes())?;
     text.push_str("\n")
 }
 
-#[tactic(auto, unfolding(crate::specs::Texts::corner_words))]
-fn push_corners(text: &mut Text, rect: &Rect) -> Result<(), AllocError>
-    ensures { OnOk result (text.new ≡ text.old ++ corner_words rect.now) }
+fn push_deadlock(text: &mut Text, form: Form, lead: Lead, cycle: &Cycle) -> Result<(), AllocError>
+    ensures { OnOk result (text.new ≡ text.old ++ flat_map (line_text (lead_words form lead)) ((codes "deadlock " ++ decimal (length cycle.now)) ∷ map (edge_words form) cycle.now)) }
 {
-    push_spaced_signed(text, rect.x1())?;
-    push_spaced_signed(text, rect.y1())?;
-    push_spaced_signed(text, rect.x2())?;
-    push_spaced_signed(text, rect.y2())
+    push_numbered(text, form, lead, "deadlock ", cycle.len() as u64)?;
+    for edge in cycle.as_slice() {
+        push_edge(text, form, lead, edge)?;
+    }
+    Ok(())
 }
 
-#[tactic(auto, unfolding(crate::specs::Texts::spaced))]
-fn push_spaced_number(text: &mut Text, number: u64) -> Result<(), AllocError>
-    ensures { OnOk result (text.new ≡ text.old ++ spaced (decimal number)) }
+#[tactic(auto, unfolding(crate::specs::Texts::line_text, crate::specs::Texts::edge_words))]
+fn push_edge(text: &mut Text, form: Form, lead: Lead, edge: &Edge) -> Result<(), AllocError>
+    ensures { OnOk result (text.new ≡ text.old ++ line_text (lead_words form lead) (edge_words form edge.now)) }
 {
-    text.push_str(" ")?;
-    text.push_number(number)
+    push_lead(text, form, lead)?;
+    text.push_str("edge")?;
+    push_spaced_session(text, form, edge.from)?;
+    push_spaced_session(text, form, edge.to)?;
+    push_spaced_name(text, edge.name)?;
+    push_spaced_mode(text, edge.wanted)?;
+    push_row(text, edge)?;
+    text.push_str("\n")
 }
 
-#[tactic(auto, unfolding(crate::specs::Texts::spaced))]
-fn push_spaced_signed(text: &mut Text, number: i32) -> Result<(), AllocError>
-    ensures { OnOk result (text.new ≡ text.old ++ spaced (signed_decimal number)) }
+// Adds what the blocking row has.
+fn push_row(text: &mut Text, edge: &Edge) -> Result<(), AllocError>
+    ensures { OnOk result (text.new ≡ text.old ++ (spaced (if edge.now.waiting then codes "waiting" else codes "held") ++ spaced (mode_word edge.now.has))) }
 {
-    text.push_str(" ")?;
-    text.push_signed(number)
+    let has = if edge.waiting { "waiting" } else { "held" };
+    push_spaced(text, has.as_bytes())?;
+    push_spaced_mode(text, edge.has)
 }
 
-#[tactic(auto, unfolding(crate::specs::Texts::spaced))]
-fn push_spaced(text: &mut Text, word: &[u8]) -> Result<(), AllocError>
-    ensures { OnOk result (text.new ≡ text.old ++ spaced word.now) }
-{
-    text.push_str(" ")?;
-    text.push_bytes(word)
-}
-
-#[tactic(auto, unfolding(crate::specs::Texts::line_text))]
-fn push_numbered(
+#[tactic(auto, unfolding(crate::specs::Texts::line_text, crate::specs::Texts::wait_words))]
+fn push_wait(
     text: &mut Text,
-    session: SessionId,
-    words: &str,
-    number: u64,
+    form: Form,
+    lead: Lead,
+    name: Name,
+    mode: Mode,
+    blockers: &Sessions,
 ) -> Result<(), AllocError>
-    ensures { OnOk result (text.new ≡ text.old ++ line_text (session_name session) (words.now ++ decimal number)) }
+    ensures { OnOk result (text.new ≡ text.old ++ line_text (lead_words form lead) (wait_words form name mode blockers.now)) }
 {
-    push_name(text, session)?;
-    text.push_str(words)?;
-    text.push_number(number)?;
+    push_lead(text, form, lead)?;
+    text.push_str("waits")?;
+    push_spaced_name(text, name)?;
+    push_spaced_mode(text, mode)?;
+    push_sessions(text, form, blockers)?;
+    text.push_str("\n")
+}
+
+fn push_sessions(text: &mut Text, form: Form, sessions: &Sessions) -> Result<(), AllocError>
+    ensures { OnOk result (text.new ≡ text.old ++ flat_map (λ s. spaced (session_word form s)) sessions.now) }
+{
+    for session in sessions.as_slice() {
+        push_spaced_session(text, form, *session)?;
+    }
+    Ok(())
+}
+
+#[tactic(auto, unfolding(crate::specs::Texts::line_text))]
+fn push_still(text: &mut Text, form: Form, lead: Lead, name: Name) -> Result<(), AllocError>
+    ensures { OnOk result (text.new ≡ text.old ++ line_text (lead_words form lead) (codes "still " ++ name_words name)) }
+{
+    push_lead(text, form, lead)?;
+    text.push_str("still ")?;
+    push_name(text, name)?;
     text.push_str("\n")
 }
 
 #[tactic(auto, unfolding(crate::specs::Texts::line_text))]
-fn push_line(text: &mut Text, session: SessionId, words: &str) -> Result<(), AllocError>
-    ensures { OnOk result (text.new ≡ text.old ++ line_text (session_name session) words.now) }
+fn push_latch(text: &mut Text, form: Form, lead: Lead, holder: SessionId) -> Result<(), AllocError>
+    ensures { OnOk result (text.new ≡ text.old ++ line_text (lead_words form lead) (codes "latch " ++ session_word form holder)) }
 {
-    push_name(text, session)?;
-    text.push_str(words)?;
+    push_lead(text, form, lead)?;
+    text.push_str("latch ")?;
+    push_session(text, form, holder)?;
     text.push_str("\n")
 }
 
-fn push_name(text: &mut Text, _session: SessionId) -> Result<(), AllocError>
-    ensures { OnOk result (text.new ≡ text.old ++ session_name _session ++ codes " ") }
+#[tactic(auto, unfolding(crate::specs::Texts::line_text, crate::specs::Texts::durable_words))]
+fn push_durable(
+    text: &mut Text,
+    form: Form,
+    lead: Lead,
+    first: u64,
+    count: u64,
+) -> Result<(), AllocError>
+    ensures { OnOk result (text.new ≡ text.old ++ line_text (lead_words form lead) (durable_words first count)) }
 {
-    text.push_str("A ")
+    push_lead(text, form, lead)?;
+    text.push_str("durable")?;
+    push_spaced_number(text, first)?;
+    push_spaced_number(text, count)?;
+    text.push_str("\n")
+}
+
+#[tactic(auto, unfolding(crate::specs::Texts::line_text, crate::specs::Texts::later_words))]
+fn push_later(
+    text: &mut Text,
+    form: Form,
+    lead: Lead,
+    granule: u64,
+    holder: SessionId,
+    mode: Mode,
+) -> Result<(), AllocError>
+    ensures { OnOk result (text.new ≡ text.old ++ line_text (lead_words form lead) (later_words form granule holder mode)) }
+{
+    push_lead(text, form, lead)?;
+    text.push_str("later")?;
+    push_spaced_name(text, Name::Granule(granule))?;
+    push_holder(text, form, holder, mode)?;
+    text.push_str("\n")
+}
+
+#[tactic(auto, unfolding(crate::specs::Texts::holder_words))]
+fn push_holder(text: &mut Text, form: Form, holder: SessionId, mode: Mode) -> Result<(), AllocError>
+    ensures { OnOk result (text.new ≡ text.old ++ holder_words form holder mode) }
+{
+    push_spaced_session(text, form, holder)?;
+    push_spaced_mode(text, mode)
 }

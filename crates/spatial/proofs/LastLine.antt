@@ -4,6 +4,7 @@ use Rattle.std.specs.Io.KnownBytes.{Appends}
 use Rattle.sp_io.specs.Faults.{Rose}
 use Rattle.sp_io.specs.Streams.{AppendsFront}
 use Rattle.sp_io.proofs.Known.{Appends-more}
+use Rattle.sp_text.specs.declared.form.Form.TheVariants.{Play}
 use Rattle.sp_text.specs.Texts.{render}
 use Rattle.sp_text.specs.declared.types.Item.{Item}
 use Rattle.sp_text.specs.declared.types.End.{End}
@@ -23,9 +24,9 @@ then_last a b c k m n x y p (inl q) h = inl (Appends-more a b c x y p q)
 then_last a b c k m n x y p (inr q) h = inr (Appends-front a b c x y p q.0, rose_before k m n h q.1)
 
 module _ (a b c : Option (List ℕ)) (k m n : ℕ) (items : List Item) where
-  pub writes_last : (end : End) → WritesTo end a b (render items) → WritesOrFails b c m n (last_line end) → (last_line end ≡ [] → c ≡ b) → k ≤ m → Writes end a c k n items
-  writes_last Input p q e h = subst (λ (x : Option (List ℕ)). Appends a x (render items)) (sym (e refl)) p
-  writes_last WriteFault p q e h = subst (λ (x : Option (List ℕ)). AppendsFront a x (render items)) (sym (e refl)) p
+  pub writes_last : (end : End) → WritesTo end a b (render Play items) → WritesOrFails b c m n (last_line end) → (last_line end ≡ [] → c ≡ b) → k ≤ m → Writes end a c k n items
+  writes_last Input p q e h = subst (λ (x : Option (List ℕ)). Appends a x (render Play items)) (sym (e refl)) p
+  writes_last WriteFault p q e h = subst (λ (x : Option (List ℕ)). AppendsFront a x (render Play items)) (sym (e refl)) p
   writes_last Usage p q e h = then_last a b c k m n _ _ p q h
   writes_last ReadFault p q e h = then_last a b c k m n _ _ p q h
   writes_last Memory p q e h = then_last a b c k m n _ _ p q h

@@ -3,6 +3,7 @@ use Rattle.std.specs.Prelude.{◌≡◌, ◌⊎◌, ℕ, List, [], ◌∷◌, �
 use Rattle.std.specs.Io.KnownBytes.{Appends}
 use Rattle.sp_io.specs.Faults.{Rose}
 use Rattle.sp_io.specs.Streams.{AppendsFront}
+use Rattle.sp_text.specs.declared.form.Form.TheVariants.{Play}
 use Rattle.sp_text.specs.Texts.{render}
 use Rattle.sp_text.specs.declared.types.Item.{Item}
 use Rattle.sp_text.specs.declared.types.End.{End}
@@ -36,6 +37,6 @@ WritesOrFails old new before now text = Appends old new text ⊎ (AppendsFront o
 
 -- What the program writes: the texts of the items, and the last line. At the end of the input nothing is left out.
 abbrev pub Writes : End → Option (List ℕ) → Option (List ℕ) → ℕ → ℕ → List Item → Type 0
-Writes Input old new before now items = Appends old new (render items)
-Writes WriteFault old new before now items = AppendsFront old new (render items)
-Writes end old new before now items = WritesOrFails old new before now (render items ++ last_line end)
+Writes Input old new before now items = Appends old new (render Play items)
+Writes WriteFault old new before now items = AppendsFront old new (render Play items)
+Writes end old new before now items = WritesOrFails old new before now (render Play items ++ last_line end)

@@ -2,6 +2,7 @@
 ghost use Rattle.std.specs.Prelude.{◌≡◌, ◌≢◌, ◌↔◌, ◌≤◌, ◌++◌, [], MatchBool};
 ghost use Rattle.sp_io.specs.Faults.{Rose};
 ghost use Rattle.sp_rect.specs.Serial.{Serial};
+ghost use Rattle.sp_text.specs.declared.form.Form.TheVariants.{Play};
 ghost use Rattle.sp_text.specs.Texts.{render};
 ghost use Rattle.sp_text.specs.Transcripts.{committed};
 ghost use Rattle.sp_play.specs.Script.{ReadsTo, WritesTo, PlaysTo};
@@ -61,7 +62,7 @@ pub fn offline<S: Source, K: Sink>(
 // Runs the command that the words name. Where they name none, nothing is read or written.
 fn run<S: Source, K: Sink>(alloc: Global, words: &Words, source: &mut S, sink: &mut K) -> Transcript
     ensures read { ReadsTo result.end (S.left source.old) (S.left source.new) result.items }
-    ensures written { WritesTo result.end (K.taken sink.old) (K.taken sink.new) (render result.items) }
+    ensures written { WritesTo result.end (K.taken sink.old) (K.taken sink.new) (render Play result.items) }
     ensures answers { PlaysTo result.end result.items }
     ensures serial { Serial [] (committed result.items) }
     ensures usage { (result.end ≡ End.Usage) ↔ (words.now ≢ play_words) }

@@ -1,4 +1,4 @@
-use Rattle.std.proofs.Common.{◌≡◌, ◌++◌, [], ◌∙◌, ap, sym, take, length, length-append, arith}
+use Rattle.std.proofs.Common.{◌++◌, [], ◌∙◌, ap, sym, take, length-append, arith}
 use Rattle.std.proofs.lemmas.List.{length-take, length-take-le}
 use Rattle.sp_io.proofs.Known.{Consumes-more, Consumes-kept}
 use Rattle.sp_play.specs.Hearing.{cut_after}

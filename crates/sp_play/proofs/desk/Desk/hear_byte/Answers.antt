@@ -1,8 +1,5 @@
-use Rattle.std.proofs.Common.{◌≡◌, refl, rules}
-use Rattle.std.specs.Result.{IfErr}
+use Rattle.std.proofs.Common.{refl}
 use Rattle.sp_io.proofs.Known.{Appends-none}
-use Rattle.sp_play.specs.declared.fault.Fault.{Fault}
-use Rattle.sp_play.specs.declared.fault.Fault.TheVariants.{Memory}
 use Rattle.sp_play.proofs.Stops.{stops_before, by_memory}
 use Rattle.sp_play.proofs.desk.Desk.hear_byte.Goals as goal
 

@@ -1,4 +1,3 @@
-use Rattle.std.proofs.Common.{rules}
 use Rattle.sp_play.proofs.Goes.{goes_more}
 use Rattle.sp_play.proofs.Stops.{stops_after, err_along, ok_along}
 use Rattle.sp_play.proofs.desk.Desk.hear_end.Goals as goal

@@ -1,0 +1,3 @@
+mod Printing
+mod Floats
+pub mod Serial

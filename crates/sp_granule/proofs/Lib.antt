@@ -1,0 +1,7 @@
+pub mod Covering
+pub mod Numbered
+mod Way
+mod Parts
+mod Walk
+mod Opening
+mod Turn

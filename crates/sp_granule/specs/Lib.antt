@@ -1,0 +1,3 @@
+pub mod Granules
+pub mod Descent
+pub mod Visit

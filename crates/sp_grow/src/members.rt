@@ -1,0 +1,106 @@
+// The members of a node as lists.
+ghost use Rattle.std.specs.Prelude.{◌≡◌, ◌<◌, ◌∷◌, ◌++◌, [], IfOk, OnOk, Some, length, map};
+ghost use Rattle.sp_rect.specs.Inside.{bound_of};
+ghost use Rattle.sp_grow.specs.Members.{pick, rects_in, pick_node};
+
+use sp_list::{Duplicate, Sequence};
+use sp_node::{Child, Entries, Entry, Node};
+use sp_rect::{Numbers, Rect};
+use std::alloc::{AllocError, Global};
+
+// Adds the entries' rectangles.
+fn push_entries(rects: &mut Vec<Rect>, entries: &[Entry]) -> Result<(), AllocError>
+    ensures { OnOk result (rects.new.items ≡ rects.old.items ++ map (λ e. e.rect) entries.now) }
+{
+    for entry in entries {
+        rects.push(entry.rect)?;
+    }
+    Ok(())
+}
+
+// Adds the children's rectangles.
+fn push_children(rects: &mut Vec<Rect>, children: &[Child]) -> Result<(), AllocError>
+    ensures { OnOk result (rects.new.items ≡ rects.old.items ++ map (λ c. c.rect) children.now) }
+{
+    for child in children {
+        rects.push(child.rect)?;
+    }
+    Ok(())
+}
+
+/// The rectangles of the node's members.
+pub(crate) fn rects_of(alloc: Global, node: &Node) -> Result<Vec<Rect>, AllocError>
+    ensures { IfOk result (λ rects. rects.items ≡ rects_in node.now) }
+{
+    let mut rects = Vec::new(alloc);
+    match node {
+        Node::Leaf(entries) => push_entries(&mut rects, entries.as_slice())?,
+        Node::Inner(children) => push_children(&mut rects, children.as_slice())?,
+    }
+    Ok(rects)
+}
+
+/// The smallest rectangle that encloses all.
+pub(crate) fn bound(rects: &[Rect]) -> Rect
+    requires { 0 < length rects.now }
+    ensures { bound_of rects.now ≡ Some result }
+{
+    let mut bound = rects[0];
+    for i in 1..rects.len() {
+        bound = bound.bound(&rects[i]);
+    }
+    bound
+}
+
+/// The smallest rectangle that encloses all children.
+pub(crate) fn bound_of_children(children: &[Child]) -> Rect
+    requires { 0 < length children.now }
+    ensures { bound_of (map (λ c. c.rect) children.now) ≡ Some result }
+{
+    let mut bound = children[0].rect;
+    for i in 1..children.len() {
+        bound = bound.bound(&children[i].rect);
+    }
+    bound
+}
+
+/// Copies of the members at these positions.
+pub(crate) fn pick<T: Duplicate>(
+    alloc: Global,
+    members: &[T],
+    positions: &[u64],
+) -> Result<Sequence<T>, AllocError>
+    ensures { IfOk result (λ picked. picked ≡ pick members.now positions.now) }
+{
+    let mut picked = Sequence::new(alloc);
+    for position in positions {
+        if let Some(member) = members.get(*position as usize) {
+            picked.push(member.copy(alloc)?)?;
+        }
+    }
+    Ok(picked)
+}
+
+/// A node with copies of the members at these positions.
+pub(crate) fn pick_node(alloc: Global, node: &Node, positions: &Numbers) -> Result<Node, AllocError>
+    ensures { IfOk result (λ picked. picked ≡ pick_node node.now positions.now) }
+{
+    let positions = positions.as_slice();
+    match node {
+        Node::Leaf(entries) => Ok(Node::Leaf(pick(alloc, entries.as_slice(), positions)?)),
+        Node::Inner(children) => Ok(Node::Inner(pick(alloc, children.as_slice(), positions)?)),
+    }
+}
+
+/// Copies of the entries, with one more at the end.
+pub(crate) fn with_entry(
+    alloc: Global,
+    entries: &Entries,
+    entry: &Entry,
+) -> Result<Entries, AllocError>
+    ensures { IfOk result (λ items. items ≡ entries.now ++ entry.now ∷ []) }
+{
+    let mut items = entries.copy(alloc)?;
+    items.push(entry.copy(alloc)?)?;
+    Ok(items)
+}

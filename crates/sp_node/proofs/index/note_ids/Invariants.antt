@@ -1,0 +1,10 @@
+use Rattle.std.proofs.Common.{◌≡◌, ℕ, drop, true}
+use Rattle.sp_node.specs.Ids.{is_known}
+use Rattle.sp_node.specs.Plan.{AreNoted}
+use Rattle.sp_node.proofs.index.note_ids.Given as goal
+
+abbrev pub invariant-back : goal.invariant-back
+invariant-back l = record {
+  noted : AreNoted l.ids (drop l.i l.parts);
+  kept : (i n : ℕ) → is_known l.fn.ids i n ≡ true → is_known l.ids i n ≡ true;
+}

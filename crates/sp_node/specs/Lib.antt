@@ -1,0 +1,14 @@
+pub mod Among
+pub mod Marks
+pub mod Nested
+pub mod Look
+pub mod Table
+pub mod Change
+pub mod First
+pub mod Ids
+pub mod Standing
+pub mod Sample
+pub mod Index
+pub mod Plan
+pub mod Reading
+pub mod Stock

@@ -1,0 +1,131 @@
+// Which leaf has an entry.
+ghost use Rattle.std.specs.Prelude.{◌≡◌, ◌+◌, ◌≤◌, ℕ, IfSome, Some, None, cond, length, nat_eq, OnOk, IsSome, true};
+ghost use Rattle.std.specs.HashMap.{get, spare};
+ghost use Rattle.std.specs.Option.{option_copied};
+ghost use Rattle.sp_node.specs.Index.{has_number, entry_in, is_held, noted};
+ghost use Rattle.sp_node.specs.Plan.{entry_count, AreNoted};
+ghost use Rattle.sp_node.specs.Ids.{is_known, AreKnown};
+
+use crate::ids::Ids;
+use crate::node::Entry;
+use crate::plan::Part;
+use crate::table::NodeTable;
+use std::alloc::AllocError;
+use std::collections::HashMap;
+
+// Forgets the leaf of each entry.
+fn forget_entries(leaves: &mut HashMap<u64, u64>, entries: &[Entry])
+    ensures gone { (q : ℕ) → get nat_eq leaves.new q ≡ cond (has_number entries.now q) None (get nat_eq leaves.old q) }
+    ensures room { spare leaves.old ≤ spare leaves.new }
+{
+    'back: for i in (0..entries.len()).rev() {
+        let _ = leaves.remove(&entries[i].number);
+    }
+}
+
+// Notes the leaf of each entry.
+fn note_entries(leaves: &mut HashMap<u64, u64>, entries: &[Entry], leaf: u64)
+    requires { length entries.now ≤ spare leaves.old }
+    ensures noted { (q : ℕ) → get nat_eq leaves.new q ≡ cond (has_number entries.now q) (Some leaf) (get nat_eq leaves.old q) }
+    ensures room { spare leaves.old ≤ spare leaves.new + length entries.now }
+{
+    'back: for i in (0..entries.len()).rev() {
+        let _ = leaves.insert(entries[i].number, leaf);
+    }
+}
+
+/// Forgets the entries that stand in the leaves of these numbers.
+pub(crate) fn forget(leaves: &mut HashMap<u64, u64>, nodes: &NodeTable, parts: &[Part])
+    ensures gone { (q : ℕ) → get nat_eq leaves.new q ≡ cond (is_held nodes.now.nodes parts.now q) None (get nat_eq leaves.old q) }
+    ensures room { spare leaves.old ≤ spare leaves.new }
+{
+    'back: for i in (0..parts.len()).rev() {
+        if let Some(node) = nodes.get(parts[i].number()) {
+            forget_entries(leaves, node.entries());
+        }
+    }
+}
+
+/// Notes the entries of the leaves among the parts.
+pub(crate) fn note(leaves: &mut HashMap<u64, u64>, parts: &[Part])
+    requires { entry_count parts.now ≤ spare leaves.old }
+    ensures { (q : ℕ) → get nat_eq leaves.new q ≡ noted parts.now q (get nat_eq leaves.old q) }
+{
+    'back: for i in (0..parts.len()).rev() {
+        let part = &parts[i];
+        note_entries(leaves, part.entries(), part.number());
+    }
+}
+
+/// How many entries the parts have, or None where the count does not fit.
+pub(crate) fn count_entries(parts: &[Part]) -> Option<usize>
+    ensures { IfSome result (λ count. count ≡ entry_count parts.now) }
+{
+    let mut count = 0usize;
+    'back: for i in (0..parts.len()).rev() {
+        count = count.checked_add(parts[i].entries().len())?;
+    }
+    Some(count)
+}
+
+/// The first entry of this number.
+pub(crate) fn entry_at(entries: &[Entry], number: u64) -> Option<&Entry>
+    ensures { option_copied result ≡ entry_in entries.now number }
+{
+    for entry in entries {
+        if entry.number == number {
+            return Some(entry);
+        }
+    }
+    None
+}
+
+// Notes the ids of the entries.
+fn note_ids_of(ids: &mut Ids, entries: &[Entry]) -> Result<(), AllocError>
+    ensures noted { OnOk result (AreKnown ids.new entries.now) }
+    ensures kept { (i n : ℕ) → is_known ids.old i n ≡ true → is_known ids.new i n ≡ true }
+{
+    'back: for i in (0..entries.len()).rev() {
+        let entry = &entries[i];
+        ids.note(entry.id, entry.number)?;
+    }
+    Ok(())
+}
+
+/// Notes the ids of the entries of the leaves among the parts.
+pub(crate) fn note_ids(ids: &mut Ids, parts: &[Part]) -> Result<(), AllocError>
+    ensures noted { OnOk result (AreNoted ids.new parts.now) }
+    ensures kept { (i n : ℕ) → is_known ids.old i n ≡ true → is_known ids.new i n ≡ true }
+{
+    'back: for i in (0..parts.len()).rev() {
+        note_ids_of(ids, parts[i].entries())?;
+    }
+    Ok(())
+}
+
+// Forgets the ids of those entries that have no leaf.
+fn forget_ids_of(ids: &mut Ids, leaves: &HashMap<u64, u64>, entries: &[Entry])
+    ensures { (i n : ℕ) → IsSome (get nat_eq leaves.now n) → is_known ids.new i n ≡ is_known ids.old i n }
+{
+    for entry in entries {
+        if !leaves.contains_key(&entry.number) {
+            ids.forget(entry.id, entry.number);
+        }
+    }
+}
+
+/// Forgets the ids of those entries that have no leaf, of those that stood in the leaves of the parts' numbers.
+pub(crate) fn forget_ids(
+    ids: &mut Ids,
+    leaves: &HashMap<u64, u64>,
+    nodes: &NodeTable,
+    parts: &[Part],
+)
+    ensures { (i n : ℕ) → IsSome (get nat_eq leaves.now n) → is_known ids.new i n ≡ is_known ids.old i n }
+{
+    for part in parts {
+        if let Some(node) = nodes.get(part.number()) {
+            forget_ids_of(ids, leaves, node.entries());
+        }
+    }
+}

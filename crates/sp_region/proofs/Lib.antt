@@ -1,0 +1,7 @@
+pub mod Points
+mod Parts
+mod Strips
+mod Cuts
+mod Waiting
+mod Left
+mod Holes

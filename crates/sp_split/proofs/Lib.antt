@@ -1,0 +1,9 @@
+pub mod Members
+pub mod Wide
+pub mod Flags
+pub mod Seeds
+pub mod Next
+pub mod Forming
+pub mod Sizes
+pub mod Positions
+pub mod Unique
