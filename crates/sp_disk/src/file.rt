@@ -152,8 +152,11 @@ pub struct FileShelf<R: Files<File = File> + Drop> {
 }
 
 impl<R: Files<File = File> + Drop> FileShelf<R> {
-    /// A shelf of the system's files.
-    pub fn new(rt: R, alloc: Global) -> FileShelf<R> {
+    /// A shelf of the system's files, which was asked for none yet.
+    pub fn new(rt: R, alloc: Global) -> FileShelf<R>
+        ensures asked { result.asked ≡ [] }
+        ensures unfailed { result.faults ≡ 0 }
+    {
         FileShelf {
             rt,
             alloc,
