@@ -1,0 +1,56 @@
+// Trees of a few records, by insertion.
+use sp_grow::grow;
+use sp_node::{Draft, Ended, Entry, Made, Marks, Shape, Tree};
+use sp_rect::{Rect, Value};
+use std::alloc::Global;
+use std::test::Fail;
+
+// More nodes than any example makes.
+const MOST_NODES: u64 = 1 << 32;
+
+pub fn rect_of(corners: (i64, i64, i64, i64)) -> Result<Rect, Fail> {
+    let (x1, y1, x2, y2) = corners;
+    match Rect::new(x1, y1, x2, y2) {
+        Ok(rect) => Ok(rect),
+        Err(_) => Err(Fail::from("no rectangle")),
+    }
+}
+
+/// The tree of these rectangles, inserted in order with the numbers from 1, with 2 to 4 members a node.
+pub fn tree_of(alloc: Global, rects: &[(i64, i64, i64, i64)]) -> Result<Tree, Fail> {
+    let mut tree = Tree::new(alloc, Shape { max: 4, min: 2 })?;
+    let mut number: u64 = 0;
+    for corners in rects {
+        number = number.saturating_add(1);
+        insert(alloc, &mut tree, number, rect_of(*corners)?)?;
+    }
+    Ok(tree)
+}
+
+fn insert(alloc: Global, tree: &mut Tree, number: u64, rect: Rect) -> Result<(), Fail> {
+    if tree.leaf_of(number).is_some() || tree.next() >= MOST_NODES {
+        return Err(Fail::from("no number"));
+    }
+    let Ok(value) = Value::new(alloc, b"parcel") else {
+        return Err(Fail::from("no value"));
+    };
+    let entry = Entry {
+        number,
+        id: number,
+        rect,
+        value,
+        marks: Marks {
+            made: Made::Committed,
+            ended: Ended::Nobody,
+            draft: Draft::None,
+        },
+    };
+    match grow(alloc, tree, entry) {
+        Ok(plan) => {
+            tree.make_room(&plan)?;
+            tree.adopt(plan);
+            Ok(())
+        }
+        Err(_) => Err(Fail::from("no memory")),
+    }
+}
