@@ -55,6 +55,7 @@ impl<'a> Model for Cursor<'a> {
 }
 
 impl<'a> Cursor<'a> {
+    /// A reader of the tree that tells no looks. Takes no memory.
     pub fn new(tree: &'a Tree) -> Cursor<'a>
         ensures { result ≡ silent tree.now.table }
     {
@@ -101,6 +102,7 @@ impl<'a> Model for Traced<'a> {
 }
 
 impl<'a> Traced<'a> {
+    /// A reader of the tree that has looked at no node. Takes no memory.
     pub fn new(alloc: Global, tree: &'a Tree) -> Traced<'a>
         ensures { result ≡ telling tree.now.table }
     {
@@ -111,6 +113,7 @@ impl<'a> Traced<'a> {
         }
     }
 
+    /// The numbers of the nodes that it looked at, in order.
     pub fn looks(&self) -> &Numbers
         ensures { Some result.now ≡ self.now.looks }
     {

@@ -18,6 +18,7 @@ pub enum Part {
 }
 
 impl Part {
+    /// The number of the node that the part names.
     pub fn number(&self) -> u64
         ensures { result ≡ number_of self.now }
     {

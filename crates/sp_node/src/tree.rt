@@ -76,6 +76,7 @@ impl Tree {
         })
     }
 
+    /// The least and the most members of a node.
     pub fn shape(&self) -> Shape
         ensures value { result ≡ self.now.table.shape }
         ensures valid { IsValid self.now.table }
@@ -83,6 +84,7 @@ impl Tree {
         self.shape
     }
 
+    /// The number of the root.
     pub fn root(&self) -> u64
         ensures value { result ≡ self.now.table.root }
         ensures valid { IsValid self.now.table }

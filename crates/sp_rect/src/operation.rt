@@ -3,8 +3,8 @@ use crate::{Record, Records, Rect, Value};
 use sp_list::{Duplicate, Sequence};
 use std::alloc::{AllocError, Global};
 
-/// One operation on records with distinct ids. `plain_reply` and `after` of `specs/Store.antt` say what
-/// it answers and what it leaves.
+/// One operation on records with distinct ids. `replied` and `after` of `specs/Store.antt` say what it is
+/// answered and what it leaves.
 #[derive(Drop)]
 pub enum Op {
     /// Adds the record, unless its id is there.
