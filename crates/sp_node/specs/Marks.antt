@@ -1,5 +1,5 @@
 -- What the end of a transaction makes of its marks on an entry.
-use Rattle.std.specs.Prelude.{ℕ, Bool, false, List, cond, nat_eq}
+use Rattle.std.specs.Prelude.{ℕ, Bool, true, false, not, ◌&&◌, ◌||◌, List, cond, nat_eq}
 use Rattle.sp_node.specs.declared.marks.Made.{Made}
 use Rattle.sp_node.specs.declared.marks.Made.TheVariants.{Committed, By as MadeBy}
 use Rattle.sp_node.specs.declared.marks.Ended.{Ended}
@@ -24,6 +24,20 @@ is_ended_by txn Done = false
 abbrev pub is_draft_of : ℕ → Draft → Bool
 is_draft_of txn NoDraft = false
 is_draft_of txn (Of t value) = nat_eq t txn
+
+abbrev pub is_committed : Made → Bool
+is_committed Committed = true
+is_committed (MadeBy t) = false
+
+-- its end is final: it is dead
+abbrev pub is_done : Ended → Bool
+is_done Nobody = false
+is_done (EndedBy t) = false
+is_done Done = true
+
+-- the entry bears a mark of the transaction, and is not dead
+abbrev pub is_marked : ℕ → Entry → Bool
+is_marked txn e = (is_made_by txn e.marks.made || is_ended_by txn e.marks.ended || is_draft_of txn e.marks.draft) && not (is_done e.marks.ended)
 
 -- the value with a draft of the transaction in its place
 abbrev pub drafted : ℕ → Draft → List ℕ → List ℕ

@@ -1,0 +1,5 @@
+pub mod Holding
+pub mod Guarding
+pub mod Reshape
+pub mod Needs
+pub mod Effects
