@@ -2,11 +2,8 @@
 //! whose rectangles are guarded do not see each other.
 #![tactic(auto)]
 
-ghost use Rattle.std.specs.Prelude.{◌≡◌, ◌≢◌, ℕ, List};
-ghost use Rattle.sp_locks.specs.declared.row.Name.{Name as AnyName};
-ghost use Rattle.sp_locks.specs.declared.mode.Mode.{Mode as AnyMode};
-ghost use Rattle.sp_granule.specs.Granules.{Granule as AnyGranule};
-ghost use Rattle.sp_protection.specs.Guarding.{Guarded, Owned, MarksOwned};
-ghost use Rattle.sp_protection.specs.Needs.{StayWant, PutWant, ShortWant, AreNeedsOf};
-ghost use Rattle.sp_protection.specs.Effects.{applied};
-ghost use Rattle.sp_protection.specs.Reshape.{Licensed};
+mod licensing;
+mod phantoms;
+
+pub use licensing::{held_needs_are_unopposed, licensed_change_keeps, short_needs_license};
+pub use phantoms::{no_phantom, search_guards};

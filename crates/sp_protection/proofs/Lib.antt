@@ -1,0 +1,4 @@
+pub mod Clashes
+pub mod Choice
+pub mod Reshapes
+pub mod Leaves
