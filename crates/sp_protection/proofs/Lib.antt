@@ -2,3 +2,4 @@ pub mod Clashes
 pub mod Choice
 pub mod Reshapes
 pub mod Leaves
+pub mod Runs
