@@ -3,3 +3,4 @@ pub mod Choice
 pub mod Reshapes
 pub mod Leaves
 pub mod Runs
+pub mod Applying

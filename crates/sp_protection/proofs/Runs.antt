@@ -1,14 +1,13 @@
 -- Operations on two stores that differ only where the operations do not look.
-use Rattle.std.proofs.Common.{◌≡◌, ◌≢◌, ◌⊎◌, ◌↔◌, ℕ, ◌+◌, ◌≤◌, ◌<◌, Bool, true, false, not, List, [], ◌∷◌, map, filter, length, nat_eq, nat_lt, nat_le, refl, sym, ap, ap₂, ◌∙◌, subst, inl, inr, le_refl, arith}
+use Rattle.std.proofs.Common.{◌≡◌, ◌≢◌, ◌⊎◌, ℕ, ◌≤◌, ◌<◌, Bool, true, false, not, List, [], ◌∷◌, map, filter, nat_eq, nat_lt, nat_le, refl, sym, ap, ap₂, ◌∙◌, subst, inl, inr, le_refl, arith}
 use Rattle.std.specs.Prelude.{if◌then◌else◌}
 use Rattle.std.proofs.lemmas.Bool.Decides.{nat_tests}
 use Rattle.sp_rect.specs.declared.record.Record.{Record}
 use Rattle.sp_rect.specs.declared.operation.Answered.{Answered}
 use Rattle.sp_rect.specs.declared.operation.Op.{Op}
 use Rattle.sp_rect.specs.declared.operation.Op.TheVariants.{Put, Drop, Set, Get, Find, Fill, Clear}
-use Rattle.sp_rect.specs.Store.{IsAscendingFrom, Part, Id, Area, part_of, touches, within, reply_to, replied, with_record, with_value, written, without, changed, after}
-use Rattle.sp_rect.specs.Serial.{records_after, RepliesAsPlain}
-use Rattle.sp_node.specs.Among.{Among}
+use Rattle.sp_rect.specs.Store.{IsAscendingFrom, Part, Id, Area, part_of, touches, within, reply_to, with_record, with_value, written, without, changed, after}
+use Rattle.sp_rect.specs.Serial.{records_after}
 use Rattle.sp_txn.specs.Visible.{sorted}
 use Rattle.sp_protection.specs.Apart.{IsApart, AreApart, SameAt, DifferApart, Undisturbed}
 

@@ -8,4 +8,4 @@ mod replays;
 
 pub use licensing::{held_needs_are_unopposed, licensed_change_keeps, short_needs_license};
 pub use phantoms::{no_phantom, search_guards};
-pub use replays::undisturbed;
+pub use replays::{operations_apply, rollbacks_are_apart, undisturbed};
