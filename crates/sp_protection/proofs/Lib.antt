@@ -4,3 +4,5 @@ pub mod Reshapes
 pub mod Leaves
 pub mod Runs
 pub mod Applying
+pub mod Commits
+pub mod Rearranging

@@ -8,4 +8,7 @@ mod replays;
 
 pub use licensing::{held_needs_are_unopposed, licensed_change_keeps, short_needs_license};
 pub use phantoms::{no_phantom, search_guards};
-pub use replays::{operations_apply, rollbacks_are_apart, undisturbed};
+pub use replays::{
+    commits_are_apart, ids_are_distinct, marks_are_owned, operations_apply, order_is_free,
+    rollbacks_are_apart, undisturbed,
+};
