@@ -6,3 +6,4 @@ pub mod Runs
 pub mod Applying
 pub mod Commits
 pub mod Rearranging
+pub mod Insertions

@@ -2,10 +2,12 @@
 //! whose rectangles are guarded do not see each other.
 #![tactic(auto)]
 
+mod insertion;
 mod licensing;
 mod phantoms;
 mod replays;
 
+pub use insertion::insertion_keeps_all;
 pub use licensing::{held_needs_are_unopposed, licensed_change_keeps, short_needs_license};
 pub use phantoms::{no_phantom, search_guards};
 pub use replays::{
