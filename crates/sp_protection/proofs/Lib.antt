@@ -7,3 +7,4 @@ pub mod Applying
 pub mod Commits
 pub mod Rearranging
 pub mod Insertions
+pub mod Wanted
