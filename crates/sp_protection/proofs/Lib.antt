@@ -8,3 +8,4 @@ pub mod Commits
 pub mod Rearranging
 pub mod Insertions
 pub mod Wanted
+pub mod Rules

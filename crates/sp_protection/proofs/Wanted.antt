@@ -1,6 +1,5 @@
 -- What the rules want is held, or asked, where the needs of the rules are.
-use Rattle.std.proofs.Common.{◌≡◌, ◌≢◌, ◌⊎◌, ℕ, Bool, true, false, ◌&&◌, ◌||◌, cond, List, [], ◌∷◌, ◌++◌, nat_eq, refl, sym, ap, ◌∙◌, subst, inl, inr, true≢false, arith}
-use Rattle.std.specs.List.{flat_map}
+use Rattle.std.proofs.Common.{◌≡◌, ◌⊎◌, ℕ, Bool, true, false, ◌&&◌, ◌||◌, cond, List, [], ◌∷◌, ◌++◌, nat_eq, refl, sym, ap, ◌∙◌, subst, inl, inr, true≢false, arith}
 use Rattle.sp_locks.specs.declared.mode.Mode.{Mode}
 use Rattle.sp_locks.specs.declared.mode.Mode.TheVariants.{IS, IX, S, SIX, X}
 use Rattle.sp_locks.specs.declared.row.Name.{Name}
@@ -99,8 +98,8 @@ held_wanted Want duration needs locks t are held name mode w = go (holds_or_not 
     go : HoldsMode locks t name mode ⊎ (HoldsMode locks t name mode → ⊥) → HoldsMode locks t name mode
     go (inl h) = h
     go (inr never) = absurd (is_joined Want name mode w (λ m j.
-      let need = are.all name m j in
-      never (subst (λ n. HoldsMode locks t n mode) need.2 (holds_weaker locks t need.0.name need.0.mode mode (held need.0 need.1) (subst (λ x. covers x mode ≡ true) (sym need.3) (j.enough mode w))))))
+        let need = are.all name m j in
+        never (subst (λ n. HoldsMode locks t n mode) need.2 (holds_weaker locks t need.0.name need.0.mode mode (held need.0 need.1) (subst (λ x. covers x mode ≡ true) (sym need.3) (j.enough mode w))))))
 
 -- needs on granules
 pub has_among : (needs : List GranuleNeed) (need : GranuleNeed) (number : ℕ) (mode : Mode) → Among need needs → need.number ≡ number → covers need.mode mode ≡ true → has needs number mode ≡ true
@@ -156,9 +155,9 @@ asked_wanted Want duration needs asked locks t are met number mode w = go (has (
     go : (b : Bool) → has (granule_needs asked ++ held_needs locks t) number mode ≡ b → b ≡ true
     go true e = refl
     go false e = absurd (is_joined Want (OnGranule number) mode w (λ m j.
-      let need = are.all (OnGranule number) m j in
-      let found = subst (λ n. IsAsked asked n need.0.mode ⊎ HoldsMode locks t n need.0.mode) need.2 (met need.0 need.1) in
-      true≢false (sym (met_by need.0.mode (subst (λ x. covers x mode ≡ true) (sym need.3) (j.enough mode w)) found) ∙ e)))
+        let need = are.all (OnGranule number) m j in
+        let found = subst (λ n. IsAsked asked n need.0.mode ⊎ HoldsMode locks t n need.0.mode) need.2 (met need.0 need.1) in
+        true≢false (sym (met_by need.0.mode (subst (λ x. covers x mode ≡ true) (sym need.3) (j.enough mode w)) found) ∙ e)))
 
 -- all needs asked
 pub all_asked : (locks : List Lock) (t : ℕ) (needs : List Need) → AreAskedOrHeld locks t needs needs

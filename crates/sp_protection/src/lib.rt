@@ -7,9 +7,11 @@ mod licensing;
 mod phantoms;
 mod replays;
 
-pub use insertion::insertion_keeps_all;
-pub use licensing::{held_needs_are_unopposed, licensed_change_keeps, short_needs_license};
-pub use phantoms::{no_phantom, search_guards};
+pub use insertion::{insertion_keeps_all, puts_keep_their_own};
+pub use licensing::{
+    held_needs_are_unopposed, licensed_change_keeps, needs_license, short_needs_license,
+};
+pub use phantoms::{changed_entries_are_owned, needs_guard, no_phantom, search_guards};
 pub use replays::{
     commits_are_apart, ids_are_distinct, marks_are_owned, operations_apply, order_is_free,
     rollbacks_are_apart, undisturbed,
