@@ -9,3 +9,4 @@ pub mod Rearranging
 pub mod Insertions
 pub mod Wanted
 pub mod Rules
+pub mod Marking

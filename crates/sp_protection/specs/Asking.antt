@@ -57,3 +57,7 @@ IsNew gs e = (g : Granule) (x : Standing) → Among g gs → Among x g.entries �
 pub record HoldsGifts (es : List Entry) (gs gs' : List Granule) (searches : List Rectangle) (locks : List Lock) (txn : ℕ) (e : Standing) : Type 0 where
   pub intent : (after : Granule) (x : Standing) → Among after gs' → after.is_leaf ≡ true → (HasNumber gs after.number → ⊥) → Among x after.entries → IsMarkedEntry es txn x ⊎ (x ≡ e) → HoldsMode locks txn (OnGranule after.number) IX
   pub searched : (after : Granule) (rect : Rectangle) → Among after gs' → (HasNumber gs after.number → ⊥) → Among rect searches → GranuleMeets after rect → HoldsMode locks txn (OnGranule after.number) S
+
+-- each of the transaction's locks is still held, or more on its name is
+abbrev pub KeepsLocks : List Lock → List Lock → ℕ → Type 0
+KeepsLocks locks left txn = (lock : Lock) → Among lock locks → lock.txn ≡ txn → HoldsMode left txn lock.name lock.mode

@@ -14,5 +14,5 @@ pub use licensing::{
 pub use phantoms::{changed_entries_are_owned, needs_guard, no_phantom, search_guards};
 pub use replays::{
     commits_are_apart, ids_are_distinct, marks_are_owned, operations_apply, order_is_free,
-    rollbacks_are_apart, undisturbed,
+    own_locks_are_enough, rollbacks_are_apart, undisturbed,
 };
