@@ -17,5 +17,7 @@ pub mod Known
 pub mod Members
 pub mod Standing
 pub mod Marking
+pub mod Noting
+pub mod NextMarked
 pub mod Sample
 pub mod Laws

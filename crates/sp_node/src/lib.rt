@@ -3,11 +3,11 @@
 //! change makes of a tree.
 #![tactic(auto)]
 
-mod ids;
 mod index;
 mod marks;
 mod node;
 mod pages;
+mod pair_index;
 mod plan;
 mod search;
 mod table;
