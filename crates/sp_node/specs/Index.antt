@@ -41,6 +41,11 @@ abbrev pub noted : List Part → ℕ → Option ℕ → Option ℕ
 noted [] q before = before
 noted (p ∷ ps) q before = cond (has_number (entries_in (content p)) q) (Some (number_of p)) (noted ps q before)
 
+-- the part that names the node of this number
+abbrev pub part_named : List Part → ℕ → Option Part
+part_named [] k = None
+part_named (p ∷ ps) k = cond (nat_eq k (number_of p)) (Some p) (part_named ps k)
+
 -- the entry passes the test
 abbrev pub passes : (Entry → Bool) → Option Entry → Bool
 passes test None = false

@@ -5,8 +5,8 @@ ghost use Rattle.sp_node.specs.Sample.{sample_entry, sample_left, sample_right, 
 ghost use Rattle.sp_node.specs.Table.{empty_tree};
 
 use crate::{
-    Child, Children, Cursor, Draft, Ended, Entries, Entry, Made, Marks, Node, Part, Parts, Plan,
-    Shape, Traced, Tree, meeting, put_part,
+    Child, Children, Cursor, Draft, Ended, Entries, Entry, Made, Marks, Node, Overlay, Part, Parts,
+    Plan, Shape, Traced, Tree, meeting, put_part,
 };
 use sp_list::Duplicate;
 use sp_rect::{Rect, Value};
@@ -148,6 +148,30 @@ fn entries(rt: HostRuntime) -> Result<(), Fail> {
     }
     let none = seen(alloc, &tree, 6)? == (0, 0, 0);
     assert!(rt; none);
+    Ok(())
+}
+
+// What the numbers stand for before the plan of the tests is adopted, and in the tree that it gives.
+#[test]
+fn overlays(rt: HostRuntime) -> Result<(), Fail> {
+    let alloc = rt.alloc();
+    let tree = empty(alloc)?;
+    let before = Overlay::of(&tree);
+    let there = (
+        before.root(),
+        before.node(1).is_some(),
+        before.node(2).is_some(),
+    );
+    assert_eq!(rt; there, (1, true, false));
+    let plan = plan(alloc)?;
+    let after = Overlay::planned(&tree, &plan);
+    let there = (
+        after.root(),
+        after.node(2).is_some(),
+        after.node(4).is_some(),
+    );
+    assert_eq!(rt; there, (3, true, false));
+    assert_eq!(rt; after.node(1).map(|node| node.entries().len()), Some(3));
     Ok(())
 }
 
