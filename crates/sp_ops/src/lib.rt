@@ -1,0 +1,9 @@
+//! Operations of transactions on the entries of a tree: which lock an operation asks first, what it replies
+//! and marks, and which locks it needs until its transaction ends.
+#![tactic(auto)]
+
+mod object;
+mod wants;
+
+pub use object::name_of;
+pub use wants::{Want, joined};
