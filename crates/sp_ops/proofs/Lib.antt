@@ -1,1 +1,3 @@
 mod Joining
+mod Arranging
+mod Seeing

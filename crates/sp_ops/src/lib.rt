@@ -2,8 +2,15 @@
 //! and marks, and which locks it needs until its transaction ends.
 #![tactic(auto)]
 
+mod acting;
+mod effects;
+mod marking;
 mod object;
+mod replies;
+mod seen;
 mod wants;
 
+pub use acting::effect;
+pub use effects::{Effect, Marked};
 pub use object::name_of;
 pub use wants::{Want, joined};
