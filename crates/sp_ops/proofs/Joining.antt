@@ -1,5 +1,5 @@
 -- What a list wants on a name, joined, and the needs that follow from it.
-use Rattle.std.proofs.Common.{◌≡◌, ℕ, ◌+◌, ◌<◌, Bool, true, false, if◌then◌else◌, cond, List, [], ◌∷◌, ◌++◌, map, take, length, get_or, Option, None, Some, refl, sym, ap, ◌∙◌, subst, inl, inr, arith}
+use Rattle.std.proofs.Common.{◌≡◌, ◌↔◌, ℕ, ◌+◌, ◌<◌, Bool, true, false, if◌then◌else◌, cond, List, [], ◌∷◌, ◌++◌, map, take, length, get_or, Option, None, Some, refl, sym, ap, ◌∙◌, subst, inl, inr, arith}
 use Rattle.std.specs.Prelude.{nat_eq}
 use Rattle.std.specs.List.{AllByRecursion}
 use Rattle.std.specs.List.Sorted.{IsStrictlySortedBy}
@@ -260,3 +260,31 @@ module _ (wants : List Want) (modes : Modes) (d : Duration) (is : (name : Name) 
       there (Object k) mode j =
           let found = found_among modes.objects.entries k mode (join_noted (Object k) mode j) in
           (need_on Object d (k, mode), among_right _ (map (need_on Granule d) modes.granules.entries) (map (need_on Object d) modes.objects.entries) (need_among Object d modes.objects.entries (k, mode) found), refl, refl)
+
+-- locks of any name may last until the transaction ends
+pub all_last : (ws : List Want) → AllMayLast Commit ws
+all_last [] = tt
+all_last (w ∷ ws) = (tt, all_last ws)
+
+-- needs of a list are needs of the rule that wants the same
+module _ {W V : Name → Mode → Type 0} (same : (name : Name) (mode : Mode) → W name mode ↔ V name mode) where
+  join_as : (name : Name) (mode : Mode) → IsJoined W name mode → IsJoined V name mode
+  join_as name mode j = record {
+    some = (j.some.0, (same name j.some.0).0 j.some.1);
+    enough = λ m v. j.enough m ((same name m).1 v);
+    least = λ m f. j.least m (λ n w. f n ((same name n).0 w));
+  }
+
+  join_back : (name : Name) (mode : Mode) → IsJoined V name mode → IsJoined W name mode
+  join_back name mode j = record {
+    some = (j.some.0, (same name j.some.0).1 j.some.1);
+    enough = λ m w. j.enough m ((same name m).0 w);
+    least = λ m f. j.least m (λ n v. f n ((same name n).1 v));
+  }
+
+  pub needs_as : (d : Duration) (needs : List Need) → AreNeedsOf W d needs → AreNeedsOf V d needs
+  needs_as d needs h = record {
+    joined = λ need a. let j = h.joined need a in (join_as need.name need.mode j.0, j.1);
+    all = λ name mode j. h.all name mode (join_back name mode j);
+    in_order = h.in_order;
+  }

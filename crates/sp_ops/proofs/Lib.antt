@@ -1,3 +1,5 @@
 mod Joining
 mod Arranging
 mod Seeing
+mod Leaves
+mod Reasons

@@ -8,6 +8,7 @@ mod marking;
 mod object;
 mod replies;
 mod seen;
+mod staying;
 mod wants;
 
 pub use acting::effect;

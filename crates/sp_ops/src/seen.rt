@@ -11,8 +11,8 @@ use sp_rect::{Numbers, Op, Rect};
 use sp_txn::visible;
 use std::alloc::{AllocError, Global};
 
-// The numbers of the entries that meet the rectangle, ascending.
-fn in_area(alloc: Global, tree: &Tree, rect: &Rect) -> Result<Numbers, AllocError>
+/// The numbers of the entries that meet the rectangle, ascending, whatever their marks.
+pub(crate) fn in_area(alloc: Global, tree: &Tree, rect: &Rect) -> Result<Numbers, AllocError>
     ensures found { IfOk result (λ numbers. IsPermutation (numbers_in tree.now.table (Area rect.now)) numbers) }
     ensures ascending { IfOk result (λ numbers. IsStrictlyIncreasing numbers) }
 {
