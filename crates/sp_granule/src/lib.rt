@@ -10,8 +10,8 @@ mod spaces;
 
 pub use cover::granules_cover_space;
 pub use descent::granule_at;
-pub use meeting::granules_meeting;
-pub use spaces::space;
+pub use meeting::{granules_meeting, granules_meeting_in};
+pub use spaces::{space, space_in};
 
 #[cfg(test)]
 mod tests;

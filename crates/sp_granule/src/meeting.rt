@@ -6,7 +6,7 @@ ghost use Rattle.sp_node.specs.Look.{look};
 ghost use Rattle.sp_granule.specs.Granules.{granules, IsMeeting};
 ghost use Rattle.sp_granule.specs.Visit.{AreAdded, IsJudged, IsVisited};
 
-use sp_node::{Child, Node, Tree};
+use sp_node::{Child, Node, Overlay, Tree};
 use sp_rect::{Numbers, Records2, Rect};
 use sp_region::{common, leaves_any};
 use std::alloc::{AllocError, Global};
@@ -76,15 +76,15 @@ fn push_leaf(found: &mut Vec<u64>, leaf: u64) -> Result<(), AllocError>
 // Looks at a node: a leaf's granule meets the rectangle where its space does.
 fn visit(
     alloc: Global,
-    tree: &Tree,
+    overlay: &Overlay,
     rect: &Rect,
     waiting: &Waiting,
     found: &mut Vec<u64>,
     pending: &mut Vec<Waiting>,
 ) -> Result<(), AllocError>
-    ensures { OnOk result (IsVisited (look tree.now.table.nodes waiting.now.node) rect.now waiting.now found.old.items found.new.items pending.old.items pending.new.items) }
+    ensures { OnOk result (IsVisited (look overlay.now.nodes waiting.now.node) rect.now waiting.now found.old.items found.new.items pending.old.items pending.new.items) }
 {
-    match tree.node(waiting.node) {
+    match overlay.node(waiting.node) {
         Some(Node::Leaf(_)) => push_leaf(found, waiting.node),
         Some(Node::Inner(children)) => {
             judge(alloc, waiting, children.as_slice(), found)?;
@@ -97,20 +97,32 @@ fn visit(
 /// The numbers of the granules that have a point of the rectangle, ascending: the leaves whose space meets
 /// it, and the inner nodes whose children leave a point of what it has of their space. It costs the nodes
 /// whose space meets the rectangle, and for each inner one of these what `leaves_any` costs.
-pub fn granules_meeting(alloc: Global, tree: &Tree, rect: &Rect) -> Result<Numbers, AllocError>
-    ensures exact { IfOk result (λ numbers. (n : ℕ) → Among n numbers ↔ IsMeeting (granules tree.now.table) rect.now n) }
+pub fn granules_meeting_in(
+    alloc: Global,
+    overlay: &Overlay,
+    rect: &Rect,
+) -> Result<Numbers, AllocError>
+    ensures exact { IfOk result (λ numbers. (n : ℕ) → Among n numbers ↔ IsMeeting (granules overlay.now) rect.now n) }
     ensures ascending { IfOk result (λ numbers. IsStrictlyIncreasing numbers) }
 {
     let mut found = Vec::new(alloc);
     let mut pending = Vec::new(alloc);
     let _left = rect.x1();
     pending.push(Waiting {
-        node: tree.root(),
+        node: overlay.root(),
         part: *rect,
     })?;
     'looking: while let Some(waiting) = pending.pop() {
-        visit(alloc, tree, rect, &waiting, &mut found, &mut pending)?;
+        visit(alloc, overlay, rect, &waiting, &mut found, &mut pending)?;
     }
     found.sort()?;
     Ok(Numbers::from_vec(found))
+}
+
+/// The same of a tree as it stands.
+pub fn granules_meeting(alloc: Global, tree: &Tree, rect: &Rect) -> Result<Numbers, AllocError>
+    ensures exact { IfOk result (λ numbers. (n : ℕ) → Among n numbers ↔ IsMeeting (granules tree.now.table) rect.now n) }
+    ensures ascending { IfOk result (λ numbers. IsStrictlyIncreasing numbers) }
+{
+    granules_meeting_in(alloc, &Overlay::of(tree), rect)
 }

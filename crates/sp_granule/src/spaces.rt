@@ -5,7 +5,7 @@ ghost use Rattle.sp_rect.specs.Inside.{bound_of};
 ghost use Rattle.sp_node.specs.Look.{look};
 ghost use Rattle.sp_granule.specs.Granules.{granules, space_of, member_rects};
 
-use sp_node::{Child, Entry, Node, Tree};
+use sp_node::{Child, Entry, Node, Overlay, Tree};
 use sp_rect::{Rect, WHOLE};
 
 // The bound of the entries' rectangles, where there are entries.
@@ -45,13 +45,22 @@ fn bound_of_members(node: &Node) -> Option<Rect>
 /// The space of a node: all of space for the root, and for any other node its rectangle in its parent.
 /// `None` comes exactly where the tree lacks the number. Takes no memory. It costs the members of the
 /// node, whose bound that rectangle is.
+pub fn space_in(overlay: &Overlay, node: u64) -> Option<Rect>
+    ensures value { result ≡ space_of (granules overlay.now) node }
+    ensures some { is_some result ≡ is_some (look overlay.now.nodes node) }
+    ensures root { node ≡ overlay.now.root → result ≡ Some whole }
+{
+    if node == overlay.root() {
+        return Some(WHOLE);
+    }
+    bound_of_members(overlay.node(node)?)
+}
+
+/// The same of a tree as it stands.
 pub fn space(tree: &Tree, node: u64) -> Option<Rect>
     ensures value { result ≡ space_of (granules tree.now.table) node }
     ensures some { is_some result ≡ is_some (look tree.now.table.nodes node) }
     ensures root { node ≡ tree.now.table.root → result ≡ Some whole }
 {
-    if node == tree.root() {
-        return Some(WHOLE);
-    }
-    bound_of_members(tree.node(node)?)
+    space_in(&Overlay::of(tree), node)
 }

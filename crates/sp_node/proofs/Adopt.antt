@@ -10,9 +10,9 @@ use Rattle.sp_node.specs.declared.plan.Part.{Part}
 use Rattle.sp_node.specs.declared.plan.Part.TheVariants.{Now, Gone}
 use Rattle.sp_node.specs.Look.{look, entries_in}
 use Rattle.sp_node.specs.Among.{Among}
-use Rattle.sp_node.specs.Ids.{is_known, AreKnown}
-use Rattle.sp_node.specs.Index.{has_number, is_held, noted, IsIndex, AreAllKnown}
-use Rattle.sp_node.specs.Plan.{number_of, content, with_part, with_parts, AreNoted, AreOrdered, entry_count, put_part}
+use Rattle.sp_node.specs.Known.{is_known, IsNoted}
+use Rattle.sp_node.specs.Index.{has_number, is_held, noted, IsIndex, AreAllKnown, AreAllNoted}
+use Rattle.sp_node.specs.Plan.{number_of, content, with_part, with_parts, AreNoted, ArePartsNoted, AreOrdered, entry_count, put_part}
 use Rattle.sp_node.proofs.Entries.{has_from_among}
 use Rattle.sp_node.proofs.Pairs.{look_put, look_take}
 
@@ -290,26 +290,34 @@ ordered_put (x ∷ ps) p a l = by_test (ltb (number_of x) (number_of p)) refl (o
         let lt = above (number_of x) (number_of p) e (unlisted_head (nat_eq (number_of p) (number_of x)) (listed ps (number_of p)) l) in
         ((lt, all_imply {P = λ r. number_of x < number_of r} {Q = λ r. number_of p < number_of r} (λ r h. omega (arith, lt, h)) ps a.0), a)
 
--- the entries after a change are known, where those that still have a leaf are kept
-module _ (known known' : List (ℕ × ℕ)) (leaf' : ℕ → Option ℕ) (nodes : List (ℕ × Node)) (ps : List Part) where
-  known_part : (qs : List Part) (k : ℕ) (o : Option Node) → AreNoted known qs → AreKnown known (entries_in o) → AreKnown known (entries_in (part_at qs k o))
-  known_part [] k o n h = h
-  known_part (p ∷ qs) k o n h = by_test (nat_eq k (number_of p)) (known_part qs k o n.1 h)
+-- what holds of each entry of the tree and of each of the parts holds of each entry after
+module _ (P Q : Entry → Type 0) (leaf' : ℕ → Option ℕ) (nodes : List (ℕ × Node)) (ps : List Part) where
+  all_part : (qs : List Part) (k : ℕ) (o : Option Node) → AllByRecursion (λ p. AllByRecursion P (entries_in (content p))) qs → AllByRecursion P (entries_in o) → AllByRecursion P (entries_in (part_at qs k o))
+  all_part [] k o n h = h
+  all_part (p ∷ qs) k o n h = by_test (nat_eq k (number_of p)) (all_part qs k o n.1 h)
     where
-      by_test : (b : Bool) → AreKnown known (entries_in (part_at qs k o)) → AreKnown known (entries_in (cond b (content p) (part_at qs k o)))
+      by_test : (b : Bool) → AllByRecursion P (entries_in (part_at qs k o)) → AllByRecursion P (entries_in (cond b (content p) (part_at qs k o)))
       by_test true more = n.0
       by_test false more = more
 
-  each_kept : (es : List Entry) → ((e : Entry) → Among e es → is_known known' e.id e.number ≡ is_known known e.id e.number) → AreKnown known es → AreKnown known' es
+  each_kept : (es : List Entry) → ((e : Entry) → Among e es → P e → Q e) → AllByRecursion P es → AllByRecursion Q es
   each_kept [] f h = tt
-  each_kept (e ∷ es) f h = (f e (inl refl) ∙ h.0, each_kept es (λ x a. f x (inr a)) h.1)
+  each_kept (e ∷ es) f h = (f e (inl refl) h.0, each_kept es (λ x a. f x (inr a)) h.1)
 
-  pub known_after : AreAllKnown known nodes → AreNoted known ps → IsIndex leaf' (with_parts nodes ps) → ((i n : ℕ) → IsSome (leaf' n) → is_known known' i n ≡ is_known known i n) → AreAllKnown known' (with_parts nodes ps)
-  known_after before noted index kept k =
+  pub all_after : ((k : ℕ) → AllByRecursion P (entries_in (look nodes k))) → AllByRecursion (λ p. AllByRecursion P (entries_in (content p))) ps → IsIndex leaf' (with_parts nodes ps) → ((e : Entry) → IsSome (leaf' e.number) → P e → Q e) → (k : ℕ) → AllByRecursion Q (entries_in (look (with_parts nodes ps) k))
+  all_after before parts index kept k =
       let es = entries_in (look (with_parts nodes ps) k) in
-      each_kept es (λ e a. kept e.id e.number (some (leaf' e.number) k ((index e.number k).1 (has_from_among e es a))))
-      (subst (λ (o : Option Node). AreKnown known (entries_in o)) (sym (look_parts nodes ps k)) (known_part ps k (look nodes k) noted (before k)))
+      each_kept es (λ e a. kept e (some (leaf' e.number) k ((index e.number k).1 (has_from_among e es a))))
+      (subst (λ (o : Option Node). AllByRecursion P (entries_in o)) (sym (look_parts nodes ps k)) (all_part ps k (look nodes k) parts (before k)))
     where
       some : (o : Option ℕ) (k : ℕ) → o ≡ Some k → IsSome o
       some None k e = cc
       some (Some j) k e = refl
+
+-- the entries after a change are known, where those that still have a leaf are kept
+pub known_after : (known known' : List (ℕ × ℕ)) (leaf' : ℕ → Option ℕ) (nodes : List (ℕ × Node)) (ps : List Part) → AreAllKnown known nodes → AreNoted known ps → IsIndex leaf' (with_parts nodes ps) → ((i n : ℕ) → IsSome (leaf' n) → is_known known' i n ≡ is_known known i n) → AreAllKnown known' (with_parts nodes ps)
+known_after known known' leaf' nodes ps before parts index kept = all_after (λ e. is_known known e.id e.number ≡ true) (λ e. is_known known' e.id e.number ≡ true) leaf' nodes ps before parts index (λ e s h. kept e.id e.number s ∙ h)
+
+-- their marks are noted
+pub noted_after : (noted : List (ℕ × ℕ)) (leaf' : ℕ → Option ℕ) (nodes : List (ℕ × Node)) (ps : List Part) → AreAllNoted noted nodes → ArePartsNoted noted ps → IsIndex leaf' (with_parts nodes ps) → AreAllNoted noted (with_parts nodes ps)
+noted_after noted leaf' nodes ps before parts index = all_after (λ e. IsNoted noted e.number e.marks) (λ e. IsNoted noted e.number e.marks) leaf' nodes ps before parts index (λ e s h. h)

@@ -17,7 +17,7 @@ use Rattle.sp_node.specs.Look.{look, entries_in, entries_of_node, IsAscending}
 use Rattle.sp_node.specs.Nested.{Body, Branch, Member, Place, places, rects, entries, AreSound, IsRootSize}
 use Rattle.sp_node.specs.Table.{Table, children_in, body_at, IsLeaf, IsInner, Stands, below_first, depth, level_of, numbers_at, places_of, entries_of, IsValidAt, IsValid}
 use Rattle.sp_node.specs.Change.{node_with, nodes_with, table_with, Keeps}
-use Rattle.sp_node.specs.Ids.{is_known, AreKnown}
+use Rattle.sp_node.specs.Known.{is_known}
 use Rattle.sp_node.specs.Index.{has_number, IsIndex, AreAllKnown, leaf_with}
 use Rattle.sp_node.proofs.Lists.{all_map, all_imply}
 
@@ -116,6 +116,10 @@ module _ (change : Entry → Entry) where
   pub entries_with : (level : ℕ) (body : Body level) → entries level (body_with level body) ≡ map change (entries level body)
   entries_with zero es = refl
   entries_with (suc level) bs = below_entries level bs (λ b. entries_with level b.body)
+
+  -- what the change makes of what holds of each entry
+  pub all_with : (P Q : Entry → Type 0) → ((e : Entry) → P e → Q (change e)) → (nodes : List (ℕ × Node)) → ((k : ℕ) → AllByRecursion P (entries_in (look nodes k))) → (k : ℕ) → AllByRecursion Q (entries_in (look (nodes_with change nodes) k))
+  all_with P Q f nodes all k = subst (AllByRecursion Q) (sym (ap entries_in (look_with nodes k) ∙ entries_in_with (look nodes k))) (all_map Q change (entries_in (look nodes k)) (all_imply f (entries_in (look nodes k)) (all k)))
 
   module _ (keeps : Keeps change) where
     -- the rectangles of a node stay
@@ -231,4 +235,4 @@ module _ (change : Entry → Entry) where
 
     -- each entry stays known under its id
     pub known_with : (known : List (ℕ × ℕ)) (nodes : List (ℕ × Node)) → AreAllKnown known nodes → AreAllKnown known (nodes_with change nodes)
-    known_with known nodes all k = subst (AreKnown known) (sym (ap entries_in (look_with nodes k) ∙ entries_in_with (look nodes k))) (all_map (λ (e : Entry). is_known known e.id e.number ≡ true) change (entries_in (look nodes k)) (all_imply (λ e h. (λ i. is_known known (keeps.id e i) (keeps.number e i)) ∙ h) (entries_in (look nodes k)) (all k)))
+    known_with known nodes all = all_with (λ e. is_known known e.id e.number ≡ true) (λ e. is_known known e.id e.number ≡ true) (λ e h. (λ i. is_known known (keeps.id e i) (keeps.number e i)) ∙ h) nodes all

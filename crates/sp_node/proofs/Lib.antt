@@ -10,6 +10,7 @@ pub mod Update
 pub mod Level
 pub mod ByNumber
 pub mod Adopt
+pub mod Parts
 pub mod Single
 pub mod Changed
 pub mod Entries
@@ -17,5 +18,7 @@ pub mod Known
 pub mod Members
 pub mod Standing
 pub mod Marking
+pub mod Noting
+pub mod NextMarked
 pub mod Sample
 pub mod Laws

@@ -15,8 +15,10 @@ use Rattle.sp_node.specs.declared.node.Node.{Node}
 use Rattle.sp_node.specs.Among.{Among}
 use Rattle.sp_node.specs.Look.{look, entries_in}
 use Rattle.sp_node.specs.Nested.{Place, node}
-use Rattle.sp_node.specs.Ids.{is_known, AreKnown, numbers_under}
-use Rattle.sp_node.specs.Index.{has_number, has_id, leaf_with, entry_in, entry_of, AreAllKnown}
+use Rattle.sp_node.specs.Known.{is_known, IsNoted, numbers_under}
+use Rattle.sp_node.specs.Marked.{entries_marked}
+use Rattle.sp_node.specs.Marks.{is_marked}
+use Rattle.sp_node.specs.Index.{has_number, has_id, passes, leaf_with, entry_in, entry_of, AreAllKnown, AreAllNoted}
 use Rattle.sp_node.specs.Table.{Table, level_of, IsValid, places_of, entries_of, body_at, entries_with_id}
 use Rattle.sp_node.specs.Standing.{IsNodeOf, HasNoNode, IsEntryOf, HasNoEntry, IsLeafOf}
 use Rattle.sp_node.proofs.Among.{all_among, among_flat_map, from_flat_map}
@@ -178,25 +180,25 @@ module _ (t : Table) (v : IsValid t) where
           let among : Among h.entry (entries_of t) = subst (Among h.entry) own_all (among_flat_map own h.entry h.place (places_of t) h.among h.has) in
           subst (λ (o : Option Entry). MatchOption o (HasNoEntry t q) (IsEntryOf t q)) (sym (ap (λ (n : ℕ). entry_of t.nodes n) (sym h.is) ∙ entry_of_among h.entry among)) (record { among = among; named = h.is })
 
-  -- the entries with an id, by their numbers
-  module _ (id : ℕ) where
+  -- the entries that pass a test, by their numbers
+  module _ (test : Entry → Bool) where
     abbrev pub bears : ℕ → Bool
-    bears q = has_id id (entry_of t.nodes q)
+    bears q = passes test (entry_of t.nodes q)
 
-    any_with : (es : List Entry) → ((e : Entry) → Among e es → entry_of t.nodes e.number ≡ Some e) → (q : ℕ) → list_any (nat_eq q) (map (λ e. e.number) (filter (λ e. nat_eq id e.id) es)) ≡ cond (bears q) (has_number es q) false
+    any_with : (es : List Entry) → ((e : Entry) → Among e es → entry_of t.nodes e.number ≡ Some e) → (q : ℕ) → list_any (nat_eq q) (map (λ e. e.number) (filter test es)) ≡ cond (bears q) (has_number es q) false
     any_with [] f q = none (bears q)
       where
         none : (b : Bool) → false ≡ cond b false false
         none true = refl
         none false = refl
-    any_with (e ∷ es) f q = by_test (nat_eq id e.id) refl (nat_eq q e.number) refl (any_with es (λ x a. f x (inr a)) q)
+    any_with (e ∷ es) f q = by_test (test e) refl (nat_eq q e.number) refl (any_with es (λ x a. f x (inr a)) q)
       where
-        here : nat_eq q e.number ≡ true → bears q ≡ nat_eq id e.id
-        here k = ap (λ (n : ℕ). has_id id (entry_of t.nodes n)) (equal_from q e.number k) ∙ ap (has_id id) (f e (inl refl))
+        here : nat_eq q e.number ≡ true → bears q ≡ test e
+        here k = ap (λ (n : ℕ). passes test (entry_of t.nodes n)) (equal_from q e.number k) ∙ ap (passes test) (f e (inl refl))
 
-        by_test : (b : Bool) → nat_eq id e.id ≡ b → (c : Bool) → nat_eq q e.number ≡ c → list_any (nat_eq q) (map (λ (x : Entry). x.number) (filter (λ x. nat_eq id x.id) es)) ≡ cond (bears q) (has_number es q) false → list_any (nat_eq q) (map (λ (x : Entry). x.number) (cond b (e ∷ filter (λ x. nat_eq id x.id) es) (filter (λ x. nat_eq id x.id) es))) ≡ cond (bears q) (c || has_number es q) false
-        by_test true k true l h = ap (λ (b : Bool). b || list_any (nat_eq q) (map (λ (x : Entry). x.number) (filter (λ x. nat_eq id x.id) es))) l ∙ ap (λ (b : Bool). cond b true false) (sym k ∙ sym (here l))
-        by_test true k false l h = ap (λ (b : Bool). b || list_any (nat_eq q) (map (λ (x : Entry). x.number) (filter (λ x. nat_eq id x.id) es))) l ∙ h
+        by_test : (b : Bool) → test e ≡ b → (c : Bool) → nat_eq q e.number ≡ c → list_any (nat_eq q) (map (λ (x : Entry). x.number) (filter test es)) ≡ cond (bears q) (has_number es q) false → list_any (nat_eq q) (map (λ (x : Entry). x.number) (cond b (e ∷ filter (test) es) (filter test es))) ≡ cond (bears q) (c || has_number es q) false
+        by_test true k true l h = ap (λ (b : Bool). b || list_any (nat_eq q) (map (λ (x : Entry). x.number) (filter test es))) l ∙ ap (λ (b : Bool). cond b true false) (sym k ∙ sym (here l))
+        by_test true k false l h = ap (λ (b : Bool). b || list_any (nat_eq q) (map (λ (x : Entry). x.number) (filter test es))) l ∙ h
         by_test false k true l h = h ∙ both (bears q) (here l ∙ k)
           where
             both : (b : Bool) → b ≡ false → cond b (has_number es q) false ≡ cond b true false
@@ -204,30 +206,41 @@ module _ (t : Table) (v : IsValid t) where
             both false e = refl
         by_test false k false l h = h
 
-    -- what is kept of the numbers known under the id
-    pub with_id : (known : List (ℕ × ℕ)) → AreAllKnown known t.nodes → IsStrictlyIncreasing (numbers_under known id) → IsPermutation (entries_with_id t id) (filter bears (numbers_under known id))
-    unfolding entries_with_id
-    with_id known all ascends = permutation_from_members (map (λ (e : Entry). e.number) (filter (λ e. nat_eq id e.id) (entries_of t))) (filter bears (numbers_under known id))
-        (distinct_filter (λ e. nat_eq id e.id) (λ e. e.number) (entries_of t) v.distinct_entries)
-        (distinct_from_ascending _ (ascends_filter bears (numbers_under known id) ascends))
-        (λ q. any_with (entries_of t) entry_of_among q ∙ agree q (entry_of t.nodes q) refl (entry_stands q) ∙ sym (any_filter bears (numbers_under known id) q))
+    -- what is kept of the numbers known under a key, under which each entry that passes is known
+    pub with_test : (known : List (ℕ × ℕ)) (key : ℕ) → ((e : Entry) → Among e (entries_of t) → test e ≡ true → is_known known key e.number ≡ true) → IsStrictlyIncreasing (numbers_under known key) → IsPermutation (map (λ e. e.number) (filter test (entries_of t))) (filter bears (numbers_under known key))
+    with_test known key all ascends = permutation_from_members (map (λ (e : Entry). e.number) (filter test (entries_of t))) (filter bears (numbers_under known key))
+        (distinct_filter test (λ e. e.number) (entries_of t) v.distinct_entries)
+        (distinct_from_ascending _ (ascends_filter bears (numbers_under known key) ascends))
+        (λ q. any_with (entries_of t) entry_of_among q ∙ agree q (entry_of t.nodes q) refl (entry_stands q) ∙ sym (any_filter bears (numbers_under known key) q))
       where
-        known_at : (e : Entry) → Among e (entries_of t) → is_known known e.id e.number ≡ true
-        known_at e a =
-            let at = from_flat_map own e (places_of t) (subst (Among e) (sym own_all) a) in
-            all_among (λ (x : Entry). is_known known x.id x.number ≡ true) e (own at.0) (subst (λ (o : Option Node). AreKnown known (entries_in o)) (place_stands at.0 at.1) (all at.0.number)) at.2
-
-        agree : (q : ℕ) (o : Option Entry) → entry_of t.nodes q ≡ o → MatchOption o (HasNoEntry t q) (IsEntryOf t q) → cond (bears q) (has_number (entries_of t) q) false ≡ cond (bears q) (list_any (nat_eq q) (numbers_under known id)) false
-        agree q None e h = none (bears q) (ap (has_id id) e)
+        agree : (q : ℕ) (o : Option Entry) → entry_of t.nodes q ≡ o → MatchOption o (HasNoEntry t q) (IsEntryOf t q) → cond (bears q) (has_number (entries_of t) q) false ≡ cond (bears q) (list_any (nat_eq q) (numbers_under known key)) false
+        agree q None e h = none (bears q) (ap (passes test) e)
           where
-            none : (b : Bool) → b ≡ false → cond b (has_number (entries_of t) q) false ≡ cond b (list_any (nat_eq q) (numbers_under known id)) false
+            none : (b : Bool) → b ≡ false → cond b (has_number (entries_of t) q) false ≡ cond b (list_any (nat_eq q) (numbers_under known key)) false
             none true e = cc
             none false e = refl
-        agree q (Some x) e h = by_id (bears q) (ap (has_id id) e)
+        agree q (Some x) e h = by_test (bears q) (ap (passes test) e)
           where
-            by_id : (b : Bool) → b ≡ nat_eq id x.id → cond b (has_number (entries_of t) q) false ≡ cond b (list_any (nat_eq q) (numbers_under known id)) false
-            by_id false k = refl
-            by_id true k =
-                let same : id ≡ x.id = equal_from id x.id (sym k) in
+            by_test : (b : Bool) → b ≡ test x → cond b (has_number (entries_of t) q) false ≡ cond b (list_any (nat_eq q) (numbers_under known key)) false
+            by_test false k = refl
+            by_test true k =
                 ap (λ (n : ℕ). has_number (entries_of t) n) (sym h.named) ∙ has_from_among x (entries_of t) h.among
-                ∙ sym (under_any known id q ∙ ap (λ (n : ℕ). is_known known n q) same ∙ ap (λ (n : ℕ). is_known known x.id n) (sym h.named) ∙ known_at x h.among)
+                ∙ sym (under_any known key q ∙ ap (λ (n : ℕ). is_known known key n) (sym h.named) ∙ all x h.among (sym k))
+
+  -- what holds of each entry of the table holds of each entry of the tree
+  pub each_entry : (P : Entry → Type 0) → ((k : ℕ) → AllByRecursion P (entries_in (look t.nodes k))) → (e : Entry) → Among e (entries_of t) → P e
+  each_entry P all e a =
+      let at = from_flat_map own e (places_of t) (subst (Among e) (sym own_all) a) in
+      all_among P e (own at.0) (subst (λ (o : Option Node). AllByRecursion P (entries_in o)) (place_stands at.0 at.1) (all at.0.number)) at.2
+
+  pub all_entries : (P : Entry → Type 0) → ((k : ℕ) → AllByRecursion P (entries_in (look t.nodes k))) → AllByRecursion P (entries_of t)
+  all_entries P all = each P (entries_of t) (each_entry P all)
+
+  -- the entries with an id, and those with marks of a transaction
+  pub with_id : (id : ℕ) (known : List (ℕ × ℕ)) → AreAllKnown known t.nodes → IsStrictlyIncreasing (numbers_under known id) → IsPermutation (entries_with_id t id) (filter (λ q. has_id id (entry_of t.nodes q)) (numbers_under known id))
+  unfolding entries_with_id
+  with_id id known all ascends = with_test (λ e. nat_eq id e.id) known id (λ e a k. ap (λ (n : ℕ). is_known known n e.number) (equal_from id e.id k) ∙ each_entry (λ x. is_known known x.id x.number ≡ true) all e a) ascends
+
+  pub with_marks : (txn : ℕ) (noted : List (ℕ × ℕ)) → AreAllNoted noted t.nodes → IsStrictlyIncreasing (numbers_under noted txn) → IsPermutation (entries_marked t txn) (filter (λ q. passes (is_marked txn) (entry_of t.nodes q)) (numbers_under noted txn))
+  unfolding entries_marked
+  with_marks txn noted all ascends = with_test (is_marked txn) noted txn (λ e a k. each_entry (λ x. IsNoted noted x.number x.marks) all e a txn k) ascends

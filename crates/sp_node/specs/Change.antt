@@ -30,4 +30,4 @@ pub record Keeps (change : Entry → Entry) : Type 0 where
 
 -- the same with room, which stays
 abbrev pub roomy_with : (Entry → Entry) → Roomy → Roomy
-roomy_with change r = record { table = table_with change r.table; node_room = r.node_room; entry_room = r.entry_room; known = r.known }
+roomy_with change r = record { table = table_with change r.table; node_room = r.node_room; entry_room = r.entry_room; known = r.known; noted = r.noted }

@@ -6,6 +6,7 @@ use Rattle.sp_node.specs.declared.node.Node.TheVariants.{Leaf, Inner}
 use Rattle.sp_node.specs.declared.node.Change.{Change}
 use Rattle.sp_node.specs.declared.node.Change.TheVariants.{Mark, Settle, Undo}
 use Rattle.sp_node.specs.Marks.{marked, settled, undone}
+use Rattle.sp_node.specs.Known.{IsNoted}
 use Rattle.sp_node.specs.Index.{has_number}
 
 -- what a change makes of an entry
@@ -13,6 +14,12 @@ abbrev pub changed : Change → Entry → Entry
 changed (Mark marks) e = marked marks e
 changed (Settle txn) e = settled txn e
 changed (Undo txn) e = undone txn e
+
+-- the entry's number is noted under each transaction that the change names in new marks
+abbrev pub IsChangeNoted : List (ℕ × ℕ) → ℕ → Change → Type 0
+IsChangeNoted noted number (Mark marks) = IsNoted noted number marks
+IsChangeNoted noted number (Settle txn) = Unit {0}
+IsChangeNoted noted number (Undo txn) = Unit {0}
 
 -- the entries with the first of this number changed
 abbrev pub first_changed : ℕ → (Entry → Entry) → List Entry → List Entry

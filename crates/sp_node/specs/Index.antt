@@ -1,11 +1,13 @@
 -- Which leaf has an entry, by the entry's number.
-use Rattle.std.specs.Prelude.{◌≡◌, ℕ, List, [], ◌∷◌, Bool, false, ◌||◌, cond, Option, Some, None, nat_eq, IsTrue, ◌↔◌}
+use Rattle.std.specs.Prelude.{◌≡◌, ℕ, List, [], ◌∷◌, Bool, true, false, ◌||◌, cond, Option, Some, None, nat_eq, IsTrue, ◌↔◌}
+use Rattle.std.specs.List.{AllByRecursion}
 use Rattle.std.specs.Option.{option_and_then}
 use Rattle.sp_node.specs.Look.{look, entries_in, entries_of_node}
 use Rattle.sp_node.specs.declared.node.Entry.{Entry}
 use Rattle.sp_node.specs.declared.plan.Part.{Part}
 use Rattle.sp_node.specs.Plan.{number_of, content}
-use Rattle.sp_node.specs.Ids.{AreKnown}
+use Rattle.sp_node.specs.Known.{AreKnown, AreMarksNoted}
+use Rattle.sp_node.specs.Marks.{is_marked}
 use Rattle.sp_node.specs.declared.node.Node.{Node}
 
 abbrev pub has_number : List Entry → ℕ → Bool
@@ -39,11 +41,28 @@ abbrev pub noted : List Part → ℕ → Option ℕ → Option ℕ
 noted [] q before = before
 noted (p ∷ ps) q before = cond (has_number (entries_in (content p)) q) (Some (number_of p)) (noted ps q before)
 
+-- the part that names the node of this number
+abbrev pub part_named : List Part → ℕ → Option Part
+part_named [] k = None
+part_named (p ∷ ps) k = cond (nat_eq k (number_of p)) (Some p) (part_named ps k)
+
+-- the entry passes the test
+abbrev pub passes : (Entry → Bool) → Option Entry → Bool
+passes test None = false
+passes test (Some e) = test e
+
 -- the entry of this number has the id
 abbrev pub has_id : ℕ → Option Entry → Bool
-has_id id None = false
-has_id id (Some e) = nat_eq id e.id
+has_id id entry = passes (λ e. nat_eq id e.id) entry
 
 -- each entry is known under its id
 abbrev pub AreAllKnown : List (ℕ × ℕ) → List (ℕ × Node) → Type 0
 AreAllKnown known nodes = (k : ℕ) → AreKnown known (entries_in (look nodes k))
+
+-- each entry is noted under each transaction whose marks it bears
+abbrev pub AreAllNoted : List (ℕ × ℕ) → List (ℕ × Node) → Type 0
+AreAllNoted noted nodes = (k : ℕ) → AreMarksNoted noted (entries_in (look nodes k))
+
+-- the entry of this number, where there is one, bears no mark of the transaction
+abbrev pub IsClear : List (ℕ × Node) → ℕ → ℕ → Type 0
+IsClear nodes txn number = (k : ℕ) → AllByRecursion (λ e. nat_eq number e.number ≡ true → is_marked txn e ≡ false) (entries_in (look nodes k))

@@ -5,7 +5,8 @@ pub mod Look
 pub mod Table
 pub mod Change
 pub mod First
-pub mod Ids
+pub mod Known
+pub mod Marked
 pub mod Standing
 pub mod Sample
 pub mod Index

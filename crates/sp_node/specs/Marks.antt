@@ -35,9 +35,13 @@ is_done Nobody = false
 is_done (EndedBy t) = false
 is_done Done = true
 
+-- the marks name the transaction, and what bears them is not dead
+abbrev pub bears : ℕ → Marks → Bool
+bears txn m = (is_made_by txn m.made || is_ended_by txn m.ended || is_draft_of txn m.draft) && not (is_done m.ended)
+
 -- the entry bears a mark of the transaction, and is not dead
 abbrev pub is_marked : ℕ → Entry → Bool
-is_marked txn e = (is_made_by txn e.marks.made || is_ended_by txn e.marks.ended || is_draft_of txn e.marks.draft) && not (is_done e.marks.ended)
+is_marked txn e = bears txn e.marks
 
 -- the value with a draft of the transaction in its place
 abbrev pub drafted : ℕ → Draft → List ℕ → List ℕ

@@ -8,7 +8,7 @@ use Rattle.sp_node.specs.declared.plan.Part.{Part}
 use Rattle.sp_node.specs.declared.plan.Part.TheVariants.{Now, Gone}
 use Rattle.sp_node.specs.declared.plan.Plan.{Plan}
 use Rattle.sp_node.specs.Look.{look, put_node, take_out, entries_in}
-use Rattle.sp_node.specs.Ids.{AreKnown}
+use Rattle.sp_node.specs.Known.{AreKnown, AreMarksNoted}
 use Rattle.sp_node.specs.Table.{Table, IsValid, entries_of}
 
 abbrev pub number_of : Part → ℕ
@@ -71,14 +71,20 @@ entry_count (p ∷ ps) = length (entries_in (content p)) + entry_count ps
 abbrev pub AreNoted : List (ℕ × ℕ) → List Part → Type 0
 AreNoted known parts = AllByRecursion (λ p. AreKnown known (entries_in (content p))) parts
 
--- a tree with its room: for new nodes, for entries by number, and for entries by id
+-- the marks of the parts' entries have their room
+abbrev pub ArePartsNoted : List (ℕ × ℕ) → List Part → Type 0
+ArePartsNoted noted parts = AllByRecursion (λ p. AreMarksNoted noted (entries_in (content p))) parts
+
+-- a tree with its room: for new nodes, for entries by number, for entries by id, and for marks by transaction and entry
 pub record Roomy : Type 0 where
   pub table : Table
   pub node_room : ℕ
   pub entry_room : ℕ
   pub known : List (ℕ × ℕ)
+  pub noted : List (ℕ × ℕ)
 
 pub record HasRoom (t : Roomy) (plan : Plan) : Type 0 where
   pub nodes : length plan.parts ≤ t.node_room
   pub entries : entry_count plan.parts ≤ t.entry_room
   pub ids : AreNoted t.known plan.parts
+  pub marks : ArePartsNoted t.noted plan.parts

@@ -1,13 +1,15 @@
-// Which leaf has an entry.
+// Which leaf has an entry, and what is known of it under its id and under transactions.
 ghost use Rattle.std.specs.Prelude.{◌≡◌, ◌+◌, ◌≤◌, ℕ, IfSome, Some, None, cond, length, nat_eq, OnOk, IsSome, true};
 ghost use Rattle.std.specs.HashMap.{get, spare};
 ghost use Rattle.std.specs.Option.{option_copied};
 ghost use Rattle.sp_node.specs.Index.{has_number, entry_in, is_held, noted};
-ghost use Rattle.sp_node.specs.Plan.{entry_count, AreNoted};
-ghost use Rattle.sp_node.specs.Ids.{is_known, AreKnown};
+ghost use Rattle.sp_node.specs.Plan.{entry_count, AreNoted, ArePartsNoted};
+ghost use Rattle.sp_node.specs.Marks.{is_made_by, is_ended_by, is_draft_of};
+ghost use Rattle.sp_node.specs.Known.{is_known, AreKnown, IsNoted, AreMarksNoted};
 
-use crate::ids::Ids;
+use crate::marks::{Draft, Ended, Made, Marks};
 use crate::node::Entry;
+use crate::pair_index::PairIndex;
 use crate::plan::Part;
 use crate::table::NodeTable;
 use std::alloc::AllocError;
@@ -81,7 +83,7 @@ pub(crate) fn entry_at(entries: &[Entry], number: u64) -> Option<&Entry>
 }
 
 // Notes the ids of the entries.
-fn note_ids_of(ids: &mut Ids, entries: &[Entry]) -> Result<(), AllocError>
+fn note_ids_of(ids: &mut PairIndex, entries: &[Entry]) -> Result<(), AllocError>
     ensures noted { OnOk result (AreKnown ids.new entries.now) }
     ensures kept { (i n : ℕ) → is_known ids.old i n ≡ true → is_known ids.new i n ≡ true }
 {
@@ -93,7 +95,7 @@ fn note_ids_of(ids: &mut Ids, entries: &[Entry]) -> Result<(), AllocError>
 }
 
 /// Notes the ids of the entries of the leaves among the parts.
-pub(crate) fn note_ids(ids: &mut Ids, parts: &[Part]) -> Result<(), AllocError>
+pub(crate) fn note_ids(ids: &mut PairIndex, parts: &[Part]) -> Result<(), AllocError>
     ensures noted { OnOk result (AreNoted ids.new parts.now) }
     ensures kept { (i n : ℕ) → is_known ids.old i n ≡ true → is_known ids.new i n ≡ true }
 {
@@ -104,7 +106,7 @@ pub(crate) fn note_ids(ids: &mut Ids, parts: &[Part]) -> Result<(), AllocError>
 }
 
 // Forgets the ids of those entries that have no leaf.
-fn forget_ids_of(ids: &mut Ids, leaves: &HashMap<u64, u64>, entries: &[Entry])
+fn forget_ids_of(ids: &mut PairIndex, leaves: &HashMap<u64, u64>, entries: &[Entry])
     ensures { (i n : ℕ) → IsSome (get nat_eq leaves.now n) → is_known ids.new i n ≡ is_known ids.old i n }
 {
     for entry in entries {
@@ -116,7 +118,7 @@ fn forget_ids_of(ids: &mut Ids, leaves: &HashMap<u64, u64>, entries: &[Entry])
 
 /// Forgets the ids of those entries that have no leaf, of those that stood in the leaves of the parts' numbers.
 pub(crate) fn forget_ids(
-    ids: &mut Ids,
+    ids: &mut PairIndex,
     leaves: &HashMap<u64, u64>,
     nodes: &NodeTable,
     parts: &[Part],
@@ -128,4 +130,77 @@ pub(crate) fn forget_ids(
             forget_ids_of(ids, leaves, node.entries());
         }
     }
+}
+
+// Notes the entry under the transaction that made it.
+fn note_made(noted: &mut PairIndex, made: Made, number: u64) -> Result<(), AllocError>
+    ensures noted { OnOk result ((txn : ℕ) → is_made_by txn made ≡ true → is_known noted.new txn number ≡ true) }
+    ensures kept { (i n : ℕ) → is_known noted.old i n ≡ true → is_known noted.new i n ≡ true }
+{
+    match made {
+        Made::By(txn) => noted.note(txn, number),
+        Made::Committed => Ok(()),
+    }
+}
+
+// Notes the entry under the transaction that ended it.
+fn note_ended(noted: &mut PairIndex, ended: Ended, number: u64) -> Result<(), AllocError>
+    ensures noted { OnOk result ((txn : ℕ) → is_ended_by txn ended ≡ true → is_known noted.new txn number ≡ true) }
+    ensures kept { (i n : ℕ) → is_known noted.old i n ≡ true → is_known noted.new i n ≡ true }
+{
+    match ended {
+        Ended::By(txn) => noted.note(txn, number),
+        Ended::Nobody | Ended::Done => Ok(()),
+    }
+}
+
+// Notes the entry under the transaction of its draft.
+fn note_draft(noted: &mut PairIndex, draft: &Draft, number: u64) -> Result<(), AllocError>
+    ensures noted { OnOk result ((txn : ℕ) → is_draft_of txn draft.now ≡ true → is_known noted.new txn number ≡ true) }
+    ensures kept { (i n : ℕ) → is_known noted.old i n ≡ true → is_known noted.new i n ≡ true }
+{
+    match draft {
+        Draft::Of(txn, _) => noted.note(*txn, number),
+        Draft::None => Ok(()),
+    }
+}
+
+/// Notes an entry under the transactions that its marks name; those of a dead one name none.
+pub(crate) fn note_marks(
+    noted: &mut PairIndex,
+    marks: &Marks,
+    number: u64,
+) -> Result<(), AllocError>
+    ensures noted { OnOk result (IsNoted noted.new number marks.now) }
+    ensures kept { (i n : ℕ) → is_known noted.old i n ≡ true → is_known noted.new i n ≡ true }
+{
+    if marks.ended == Ended::Done {
+        return Ok(());
+    }
+    note_made(noted, marks.made, number)?;
+    note_ended(noted, marks.ended, number)?;
+    note_draft(noted, &marks.draft, number)
+}
+
+// Notes the entries under the transactions whose marks they bear.
+fn note_marks_of(noted: &mut PairIndex, entries: &[Entry]) -> Result<(), AllocError>
+    ensures noted { OnOk result (AreMarksNoted noted.new entries.now) }
+    ensures kept { (i n : ℕ) → is_known noted.old i n ≡ true → is_known noted.new i n ≡ true }
+{
+    'back: for i in (0..entries.len()).rev() {
+        let entry = &entries[i];
+        note_marks(noted, &entry.marks, entry.number)?;
+    }
+    Ok(())
+}
+
+/// Notes the entries of the leaves among the parts under the transactions whose marks they bear.
+pub(crate) fn note_marks_in(noted: &mut PairIndex, parts: &[Part]) -> Result<(), AllocError>
+    ensures noted { OnOk result (ArePartsNoted noted.new parts.now) }
+    ensures kept { (i n : ℕ) → is_known noted.old i n ≡ true → is_known noted.new i n ≡ true }
+{
+    'back: for i in (0..parts.len()).rev() {
+        note_marks_of(noted, parts[i].entries())?;
+    }
+    Ok(())
 }

@@ -3,11 +3,12 @@
 //! change makes of a tree.
 #![tactic(auto)]
 
-mod ids;
 mod index;
 mod marks;
 mod node;
+mod overlay;
 mod pages;
+mod pair_index;
 mod plan;
 mod search;
 mod table;
@@ -17,6 +18,7 @@ mod tree;
 
 pub use marks::{Draft, Ended, Made, Marks};
 pub use node::{Child, Children, Entries, Entry, Node, Nodes, Shape};
+pub use overlay::Overlay;
 pub use pages::{Cursor, Pages, Traced};
 pub use plan::{Part, Parts, Plan, put_part};
 pub use search::meeting;

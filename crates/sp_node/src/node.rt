@@ -2,9 +2,10 @@
 ghost use Rattle.std.specs.Prelude.{◌≡◌, MatchOption, false};
 ghost use Rattle.sp_node.specs.Look.{entries_of_node};
 ghost use Rattle.sp_node.specs.Index.{has_number};
+ghost use Rattle.sp_node.specs.Marks.{is_marked};
 ghost use Rattle.sp_node.specs.First.{changed, first_changed, node_first_changed, IsPlaceOf};
 
-use crate::marks::Marks;
+use crate::marks::{Ended, Marks};
 use sp_list::{Duplicate, Sequence};
 use sp_rect::{Rect, Value};
 use std::alloc::{AllocError, Global};
@@ -132,6 +133,19 @@ pub(crate) fn change_node(node: Node, number: u64, change: Change) -> Node
             Node::Leaf(Entries::from_vec(items))
         }
         Node::Inner(children) => Node::Inner(children),
+    }
+}
+
+impl Entry {
+    /// Whether it bears a mark of the transaction, which made it, ended it or has a draft of it, and is not
+    /// dead. Takes no memory.
+    pub fn is_marked(&self, txn: u64) -> bool
+        ensures { result ≡ is_marked txn self.now }
+    {
+        let marks = &self.marks;
+        let named = marks.made.is_by(txn) || marks.ended.is_by(txn) || marks.draft.is_of(txn);
+        let dead = marks.ended == Ended::Done;
+        named && !dead
     }
 }
 

@@ -1,5 +1,6 @@
 // Plans: what a change makes of a tree.
 ghost use Rattle.std.specs.Prelude.{◌≡◌, ◌∷◌, ◌++◌, ◌≤◌, length, take, drop, if◌then◌else◌, is_ok};
+ghost use Rattle.std.specs.Option.{option_copied};
 ghost use Rattle.sp_node.specs.Look.{entries_in};
 ghost use Rattle.sp_node.specs.Plan.{number_of, content, put_part};
 ghost use Rattle.sp_node.specs.declared.plan.Part.{Part};
@@ -25,6 +26,16 @@ impl Part {
         match self {
             Part::Now(number, _) => *number,
             Part::Gone(number) => *number,
+        }
+    }
+
+    /// The node that the part leaves under its number, or None where it leaves none.
+    pub fn node(&self) -> Option<&Node>
+        ensures { option_copied result ≡ content self.now }
+    {
+        match self {
+            Part::Now(_, node) => Some(node),
+            Part::Gone(_) => None,
         }
     }
 

@@ -5,8 +5,8 @@ ghost use Rattle.sp_node.specs.Sample.{sample_entry, sample_left, sample_right, 
 ghost use Rattle.sp_node.specs.Table.{empty_tree};
 
 use crate::{
-    Child, Children, Cursor, Draft, Ended, Entries, Entry, Made, Marks, Node, Part, Parts, Plan,
-    Shape, Traced, Tree, meeting, put_part,
+    Child, Children, Cursor, Draft, Ended, Entries, Entry, Made, Marks, Node, Overlay, Part, Parts,
+    Plan, Shape, Traced, Tree, meeting, put_part,
 };
 use sp_list::Duplicate;
 use sp_rect::{Rect, Value};
@@ -151,6 +151,30 @@ fn entries(rt: HostRuntime) -> Result<(), Fail> {
     Ok(())
 }
 
+// What the numbers stand for before the plan of the tests is adopted, and in the tree that it gives.
+#[test]
+fn overlays(rt: HostRuntime) -> Result<(), Fail> {
+    let alloc = rt.alloc();
+    let tree = empty(alloc)?;
+    let before = Overlay::of(&tree);
+    let there = (
+        before.root(),
+        before.node(1).is_some(),
+        before.node(2).is_some(),
+    );
+    assert_eq!(rt; there, (1, true, false));
+    let plan = plan(alloc)?;
+    let after = Overlay::planned(&tree, &plan);
+    let there = (
+        after.root(),
+        after.node(2).is_some(),
+        after.node(4).is_some(),
+    );
+    assert_eq!(rt; there, (3, true, false));
+    assert_eq!(rt; after.node(1).map(|node| node.entries().len()), Some(3));
+    Ok(())
+}
+
 // How many entries and how many children a copy of the node has.
 fn copied(alloc: Global, tree: &Tree, number: u64) -> Result<(usize, usize), &'static str> {
     let node = tree.node(number).ok_or("no node")?;
@@ -205,7 +229,9 @@ fn after(
     commits: bool,
 ) -> Result<(Made, Ended, bool, u8), &'static str> {
     let draft = Draft::Of(drafted, value(alloc, b"b")?);
-    tree.mark(entry, Marks { made, ended, draft });
+    let marks = Marks { made, ended, draft };
+    tree.note_marks(entry, &marks).map_err(|_| "no memory")?;
+    tree.mark(entry, marks);
     if commits {
         tree.settle(entry, 7);
     } else {
@@ -231,5 +257,44 @@ fn marks(rt: HostRuntime) -> Result<(), Fail> {
     assert_eq!(rt; others, (Made::By(8), Ended::By(8), true, b'a'));
     tree.settle(4, 8);
     assert_eq!(rt; tree.entry(4).map(|e| e.marks.ended), Some(Ended::Done));
+    Ok(())
+}
+
+// Gives the entry a draft of the transaction.
+fn draft(alloc: Global, tree: &mut Tree, entry: u64, txn: u64) -> Result<(), &'static str> {
+    let draft = Draft::Of(txn, value(alloc, b"b")?);
+    let marks = Marks {
+        made: Made::Committed,
+        ended: Ended::Nobody,
+        draft,
+    };
+    tree.note_marks(entry, &marks).map_err(|_| "no memory")?;
+    tree.mark(entry, marks);
+    Ok(())
+}
+
+#[test]
+fn marked_entries(rt: HostRuntime) -> Result<(), Fail> {
+    let alloc = rt.alloc();
+    let mut tree = tree(alloc)?;
+    for (entry, txn) in [(5, 7), (1, 7), (3, 7), (2, 8)] {
+        draft(alloc, &mut tree, entry, txn)?;
+    }
+    assert_eq!(rt; tree.marked(alloc, 7)?.as_slice(), [1, 3, 5].as_slice());
+    assert_eq!(rt; tree.marked(alloc, 9)?.as_slice(), [].as_slice());
+    let all = [
+        tree.next_marked(7, 0),
+        tree.next_marked(7, 2),
+        tree.next_marked(7, 6),
+    ];
+    assert_eq!(rt; all, [Some(1), Some(3), None]);
+    tree.undo(3, 7);
+    tree.settle(5, 7);
+    let left = [
+        tree.next_marked(7, 0),
+        tree.next_marked(7, 2),
+        tree.next_marked(8, 0),
+    ];
+    assert_eq!(rt; left, [Some(1), None, Some(2)]);
     Ok(())
 }

@@ -3,19 +3,23 @@ ghost use Rattle.std.specs.Prelude.{◌≡◌, OnOk, IfOk, MatchOption};
 ghost use Rattle.std.specs.Option.{option_copied};
 ghost use Rattle.std.specs.List.{filter};
 ghost use Rattle.std.specs.List.Sorted.{IsPermutation, IsStrictlyIncreasing};
-ghost use Rattle.sp_node.specs.Change.{at_number, roomy_with};
-ghost use Rattle.sp_node.specs.First.{changed};
-ghost use Rattle.sp_node.specs.Index.{leaf_with, entry_of, has_id};
+ghost use Rattle.sp_node.specs.Change.{at_number, table_with, roomy_with};
+ghost use Rattle.sp_node.specs.First.{changed, IsChangeNoted};
+ghost use Rattle.sp_node.specs.Index.{leaf_with, entry_of, has_id, passes, IsClear};
+ghost use Rattle.sp_node.specs.Known.{IsNoted, AreMarksNoted};
 ghost use Rattle.sp_node.specs.Look.{look, IsAscending};
-ghost use Rattle.sp_node.specs.Marks.{marked, settled, undone};
+ghost use Rattle.sp_node.specs.Marked.{entries_marked, HasNoMarkFrom, IsNextMarked, IsRoomSame, IsNotedKept, IsMarkForgotten};
+ghost use Rattle.sp_node.specs.Marks.{is_marked, marked, settled, undone};
 ghost use Rattle.sp_node.specs.Plan.{planned, IsMadeOf, HasRoom};
 ghost use Rattle.sp_node.specs.Standing.{IsNodeOf, HasNoNode, IsEntryOf, HasNoEntry, IsLeafOf};
-ghost use Rattle.sp_node.specs.Table.{IsShape, IsValid, empty_tree, entries_with_id};
+ghost use Rattle.sp_node.specs.Table.{IsShape, IsValid, empty_tree, entries_of, entries_with_id};
 
-use crate::ids::Ids;
-use crate::index::{count_entries, entry_at, forget, forget_ids, note, note_ids};
+use crate::index::{
+    count_entries, entry_at, forget, forget_ids, note, note_ids, note_marks, note_marks_in,
+};
 use crate::marks::Marks;
 use crate::node::{Change, Entries, Entry, Node, Shape};
+use crate::pair_index::PairIndex;
 use crate::plan::Plan;
 use crate::table::NodeTable;
 use sp_rect::Numbers;
@@ -31,7 +35,8 @@ pub struct Tree {
     next: u64,
     nodes: NodeTable,
     leaves: HashMap<u64, u64>,
-    ids: Ids,
+    ids: PairIndex,
+    marks: PairIndex,
 }
 
 impl Model for Tree {
@@ -39,7 +44,7 @@ impl Model for Tree {
     ghost use Rattle.std.specs.HashMap.{get, spare};
     ghost use Rattle.sp_node.specs.Table.{IsValid};
     ghost use Rattle.sp_node.specs.Plan.{Roomy};
-    ghost use Rattle.sp_node.specs.Index.{IsIndex, AreAllKnown};
+    ghost use Rattle.sp_node.specs.Index.{IsIndex, AreAllKnown, AreAllNoted};
 
     ghost Value = { Roomy };
 
@@ -48,12 +53,14 @@ impl Model for Tree {
       node_room = a.nodes.room;
       entry_room = spare a.leaves;
       known = a.ids;
+      noted = a.marks;
     } };
 
     ghost invariant = { λ a. record {
       valid : IsValid (record { shape = a.shape; root = a.root; next = a.next; nodes = a.nodes.nodes });
       index : IsIndex (λ q. get nat_eq a.leaves q) a.nodes.nodes;
       known : AreAllKnown a.ids a.nodes.nodes;
+      noted : AreAllNoted a.marks a.nodes.nodes;
     } };
 }
 
@@ -72,7 +79,8 @@ impl Tree {
             next: 2,
             nodes,
             leaves: HashMap::new(alloc),
-            ids: Ids::new(alloc),
+            ids: PairIndex::new(alloc),
+            marks: PairIndex::new(alloc),
         })
     }
 
@@ -174,8 +182,59 @@ impl Tree {
         Ok(kept)
     }
 
+    // Whether the entry of this number bears a mark of the transaction.
+    fn bears(&self, number: u64, txn: u64) -> bool
+        ensures { result ≡ passes (is_marked txn) (entry_of self.now.table.nodes number) }
+    {
+        match self.entry(number) {
+            Some(entry) => entry.is_marked(txn),
+            None => false,
+        }
+    }
+
+    /// The least entry number that is at least `start` and whose entry bears a mark of the transaction, or
+    /// None exactly where there is none. Takes no memory. Costs a search in an ordered table, and as `entry`
+    /// does.
+    pub fn next_marked(&self, txn: u64, start: u64) -> Option<u64>
+        ensures { MatchOption result (HasNoMarkFrom self.now.table txn start) (IsNextMarked self.now.table txn start) }
+    {
+        let mut at = start;
+        while let Some(number) = self.marks.first_from(txn, at) {
+            if self.bears(number, txn) {
+                return Some(number);
+            }
+            at = number.checked_add(1)?;
+        }
+        None
+    }
+
+    /// The numbers of the entries that bear a mark of the transaction, ascending. Costs a search in an
+    /// ordered table, and those entries' leaves.
+    pub fn marked(&self, alloc: Global, txn: u64) -> Result<Numbers, AllocError>
+        ensures found { IfOk result (λ numbers. IsPermutation (entries_marked self.now.table txn) numbers) }
+        ensures ascending { IfOk result (λ numbers. IsStrictlyIncreasing numbers) }
+    {
+        let numbers = self.marks.under(alloc, txn)?;
+        let found = self.keep_marked(alloc, &numbers, txn)?;
+        Ok(Numbers::from_vec(found))
+    }
+
+    // Those of the numbers whose entries bear a mark of the transaction.
+    fn keep_marked(&self, alloc: Global, numbers: &[u64], txn: u64) -> Result<Vec<u64>, AllocError>
+        ensures { IfOk result (λ kept. kept.items ≡ filter (λ n. passes (is_marked txn) (entry_of self.now.table.nodes n)) numbers.now) }
+    {
+        let mut kept = Vec::new(alloc);
+        for number in numbers {
+            if self.bears(*number, txn) {
+                kept.push(*number)?;
+            }
+        }
+        Ok(kept)
+    }
+
     // Changes the entry of this number.
     fn change(&mut self, entry: u64, change: Change)
+        requires { IsChangeNoted self.old.noted entry change }
         ensures { self.new ≡ roomy_with (at_number entry (changed change)) self.old }
     {
         if let Some(leaf) = self.leaves.get(&entry).copied() {
@@ -183,43 +242,75 @@ impl Tree {
         }
     }
 
+    // Takes the pair of the transaction and the entry out of the index of marks.
+    fn forget_mark(&mut self, entry: u64, txn: u64)
+        requires { IsClear self.old.table.nodes txn entry }
+        ensures table { self.new.table ≡ self.old.table }
+        ensures room { IsRoomSame self.old self.new }
+        ensures noted { IsMarkForgotten txn entry self.old self.new }
+    {
+        self.marks.forget(txn, entry);
+    }
+
+    /// Makes the room that it takes to give the entry of this number these marks, and changes nothing else,
+    /// with or without memory. The room for a transaction's marks stays until they are settled or undone, or
+    /// the tree adopts a plan. Costs a search in an ordered table for each transaction that the marks name.
+    pub fn note_marks(&mut self, entry: u64, marks: &Marks) -> Result<(), AllocError>
+        ensures table { self.new.table ≡ self.old.table }
+        ensures room { IsRoomSame self.old self.new }
+        ensures kept { IsNotedKept self.old self.new }
+        ensures ok { OnOk result (IsNoted self.new.noted entry marks.now) }
+        ensures all { AreMarksNoted self.new.noted (entries_of self.new.table) }
+    {
+        note_marks(&mut self.marks, marks, entry)
+    }
+
     /// Gives the entry of this number these marks, and changes nothing else; nothing at all where the tree
-    /// lacks the entry. Takes no memory. Costs as `entry` does.
+    /// lacks the entry. Needs the room that `note_marks` makes. Takes no memory. Costs as `entry` does.
     pub fn mark(&mut self, entry: u64, marks: Marks)
+        requires { IsNoted self.old.noted entry marks }
         ensures { self.new ≡ roomy_with (at_number entry (marked marks)) self.old }
     {
         self.change(entry, Change::Mark(marks));
     }
 
     /// Makes of the marks of this transaction on the entry what its commit does: what the transaction made
-    /// is committed, what it ended is done, and its draft becomes the value. Changes nothing else. Takes no
-    /// memory. Costs as `entry` does.
+    /// is committed, what it ended is done, and its draft becomes the value. Changes nothing else; the room
+    /// for marks of this transaction on the entry goes. Takes no memory. Costs as `entry` does.
     pub fn settle(&mut self, entry: u64, txn: u64)
-        ensures { self.new ≡ roomy_with (at_number entry (settled txn)) self.old }
+        ensures table { self.new.table ≡ table_with (at_number entry (settled txn)) self.old.table }
+        ensures room { IsRoomSame self.old self.new }
+        ensures noted { IsMarkForgotten txn entry self.old self.new }
     {
         self.change(entry, Change::Settle(txn));
+        self.forget_mark(entry, txn);
     }
 
     /// Makes of the marks of this transaction on the entry what its rollback does: what the transaction
-    /// made is done, what else it ended is ended by nobody, and its draft goes. Changes nothing else. Takes
-    /// no memory. Costs as `entry` does.
+    /// made is done, what else it ended is ended by nobody, and its draft goes. Changes nothing else; the
+    /// room for marks of this transaction on the entry goes. Takes no memory. Costs as `entry` does.
     pub fn undo(&mut self, entry: u64, txn: u64)
-        ensures { self.new ≡ roomy_with (at_number entry (undone txn)) self.old }
+        ensures table { self.new.table ≡ table_with (at_number entry (undone txn)) self.old.table }
+        ensures room { IsRoomSame self.old self.new }
+        ensures noted { IsMarkForgotten txn entry self.old self.new }
     {
         self.change(entry, Change::Undo(txn));
+        self.forget_mark(entry, txn);
     }
 
     /// Makes the room that adopting the plan takes, and changes nothing else, with or without memory. Costs
     /// the parts, and what growing the tables takes.
     pub fn make_room(&mut self, plan: &Plan) -> Result<(), AllocError>
         ensures table { self.new.table ≡ self.old.table }
+        ensures kept { IsNotedKept self.old self.new }
         ensures ok { OnOk result (HasRoom self.new plan.now) }
     {
         let parts = plan.parts.as_slice();
         let entries = count_entries(parts).ok_or(AllocError)?;
         self.nodes.reserve(parts.len())?;
         self.leaves.reserve(entries)?;
-        note_ids(&mut self.ids, parts)
+        note_ids(&mut self.ids, parts)?;
+        note_marks_in(&mut self.marks, parts)
     }
 
     /// Puts the plan's nodes in place of the tree's. Takes no memory. Costs the parts.

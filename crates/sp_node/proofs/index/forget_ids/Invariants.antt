@@ -1,7 +1,7 @@
 use Rattle.std.proofs.Common.{◌≡◌, ℕ}
 use Rattle.std.specs.Prelude.{nat_eq, IsSome}
 use Rattle.std.specs.HashMap.{get}
-use Rattle.sp_node.specs.Ids.{is_known}
+use Rattle.sp_node.specs.Known.{is_known}
 use Rattle.sp_node.proofs.index.forget_ids.Given as goal
 
 abbrev pub invariant-loop-part : goal.invariant-loop-part

@@ -1,7 +1,7 @@
 use Rattle.std.proofs.Common.{◌≡◌, ◌+◌, ◌-◌, ◌∷◌, drop, sym, ap, subst, ◌∙◌, arith}
 use Rattle.std.proofs.lemmas.List.{drop_more}
 use Rattle.sp_node.specs.declared.plan.Part.{Part}
-use Rattle.sp_node.specs.Ids.{AreKnown}
+use Rattle.sp_node.specs.Known.{AreKnown}
 use Rattle.sp_node.specs.Plan.{AreNoted}
 use Rattle.sp_node.proofs.Known.{still_noted}
 use Rattle.sp_node.proofs.index.note_ids.Goals as goal

@@ -1,5 +1,5 @@
 use Rattle.std.proofs.Common.{◌≡◌, ℕ, drop, true}
-use Rattle.sp_node.specs.Ids.{is_known}
+use Rattle.sp_node.specs.Known.{is_known}
 use Rattle.sp_node.specs.Plan.{AreNoted}
 use Rattle.sp_node.proofs.index.note_ids.Given as goal
 

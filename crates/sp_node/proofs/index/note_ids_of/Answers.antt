@@ -1,7 +1,7 @@
 use Rattle.std.proofs.Common.{◌≡◌, ◌+◌, ◌-◌, ◌∷◌, drop, sym, ap, subst, ◌∙◌, arith}
 use Rattle.std.proofs.lemmas.List.{drop_more}
 use Rattle.sp_node.specs.declared.node.Entry.{Entry}
-use Rattle.sp_node.specs.Ids.{AreKnown}
+use Rattle.sp_node.specs.Known.{AreKnown}
 use Rattle.sp_node.proofs.Known.{still_known}
 use Rattle.sp_node.proofs.index.note_ids_of.Goals as goal
 

@@ -1,5 +1,5 @@
 use Rattle.std.proofs.Common.{◌≡◌, ℕ, drop, true}
-use Rattle.sp_node.specs.Ids.{is_known, AreKnown}
+use Rattle.sp_node.specs.Known.{is_known, AreKnown}
 use Rattle.sp_node.proofs.index.note_ids_of.Given as goal
 
 abbrev pub invariant-back : goal.invariant-back

@@ -3,10 +3,10 @@ use Rattle.std.specs.Prelude.{nat_eq}
 use Rattle.std.specs.HashMap.{get}
 use Rattle.sp_node.specs.declared.node.Node.{Node}
 use Rattle.sp_node.specs.declared.plan.Part.{Part}
-use Rattle.sp_node.specs.Plan.{with_parts, planned, Roomy, AreNoted}
-use Rattle.sp_node.specs.Index.{is_held, noted, IsIndex, AreAllKnown}
+use Rattle.sp_node.specs.Plan.{with_parts, planned, Roomy, AreNoted, ArePartsNoted}
+use Rattle.sp_node.specs.Index.{is_held, noted, IsIndex, AreAllKnown, AreAllNoted}
 use Rattle.sp_node.specs.Table.{Table, IsValid}
-use Rattle.sp_node.proofs.Adopt.{index_after, known_after}
+use Rattle.sp_node.proofs.Adopt.{index_after, known_after, noted_after}
 use Rattle.sp_node.proofs.Single.{single_leaf}
 use Rattle.sp_node.proofs.tree.Tree.adopt.Goals as goal
 
@@ -22,4 +22,5 @@ invariant_of-self c =
       valid = subst (λ (ns : List (ℕ × Node)). IsValid (record { shape = c.self.inside.shape; root = c.args.plan.root; next = c.args.plan.next; nodes = ns })) (sym c.take.ensures) valid;
       index = subst (IsIndex (λ q. get nat_eq c.note.new.leaves q)) (sym c.take.ensures) index;
       known = subst (AreAllKnown c.forget_ids.new.ids) (sym c.take.ensures) (known_after c.self.inside.ids c.forget_ids.new.ids (λ q. get nat_eq c.note.new.leaves q) before ps c.self.invariant.known (subst (λ (r : Roomy). AreNoted r.known ps) (sym c.self.view_is) c.requires.room.ids) index c.forget_ids.ensures);
+      noted = subst (AreAllNoted c.self.inside.marks) (sym c.take.ensures) (noted_after c.self.inside.marks (λ q. get nat_eq c.note.new.leaves q) before ps c.self.invariant.noted (subst (λ (r : Roomy). ArePartsNoted r.noted ps) (sym c.self.view_is) c.requires.room.marks) index);
     }

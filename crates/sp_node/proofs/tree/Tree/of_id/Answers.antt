@@ -1,7 +1,7 @@
 use Rattle.std.proofs.Common.{◌≡◌, ℕ, List, sym, ap, subst, ◌∙◌}
 use Rattle.std.specs.List.{filter}
 use Rattle.std.specs.List.Sorted.{IsPermutation, IsStrictlyIncreasing}
-use Rattle.sp_node.specs.Ids.{numbers_under}
+use Rattle.sp_node.specs.Known.{numbers_under}
 use Rattle.sp_node.specs.Index.{entry_of, has_id, AreAllKnown}
 use Rattle.sp_node.specs.Plan.{Roomy}
 use Rattle.sp_node.specs.Table.{Table, IsValid, entries_with_id}

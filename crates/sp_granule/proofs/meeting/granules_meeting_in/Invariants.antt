@@ -3,10 +3,10 @@ use Rattle.sp_node.specs.Look.{look}
 use Rattle.sp_node.specs.Table.{level_of}
 use Rattle.sp_node.proofs.Weight.{weight}
 use Rattle.sp_granule.proofs.Walk.{Walks}
-use Rattle.sp_granule.proofs.meeting.granules_meeting.Given as goal
+use Rattle.sp_granule.proofs.meeting.granules_meeting_in.Given as goal
 
 abbrev pub invariant-looking : goal.invariant-looking
-invariant-looking l = Walks l.tree.table l.rect l.pending.items l.found.items
+invariant-looking l = Walks l.overlay l.rect l.pending.items l.found.items
 
 abbrev pub decreases-looking : goal.decreases-looking
-decreases-looking l = sum_by (λ w. weight (look l.tree.table.nodes) (level_of l.tree.table) w.node) l.pending.items
+decreases-looking l = sum_by (λ w. weight (look l.overlay.nodes) (level_of l.overlay) w.node) l.pending.items

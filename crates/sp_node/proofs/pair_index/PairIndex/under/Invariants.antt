@@ -1,5 +1,5 @@
 use Rattle.std.proofs.Common.{◌≡◌, ◌++◌, map}
-use Rattle.sp_node.proofs.ids.Ids.under.Given as goal
+use Rattle.sp_node.proofs.pair_index.PairIndex.under.Given as goal
 
 -- what is found, and what is left to pass
 abbrev pub invariant-loop-number : goal.invariant-loop-number
