@@ -1,0 +1,5 @@
+mod Joining
+mod Arranging
+mod Seeing
+mod Leaves
+mod Reasons

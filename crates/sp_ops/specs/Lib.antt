@@ -1,0 +1,4 @@
+pub mod Object
+pub mod Wanted
+pub mod Seen
+pub mod Effect

@@ -1,0 +1,17 @@
+//! Operations of transactions on the entries of a tree: which lock an operation asks first, what it replies
+//! and marks, and which locks it needs until its transaction ends.
+#![tactic(auto)]
+
+mod acting;
+mod effects;
+mod marking;
+mod object;
+mod replies;
+mod seen;
+mod staying;
+mod wants;
+
+pub use acting::effect;
+pub use effects::{Effect, Marked};
+pub use object::name_of;
+pub use wants::{Want, joined};
