@@ -4,4 +4,6 @@
 #[cfg(test)]
 mod granules;
 #[cfg(test)]
+mod needs;
+#[cfg(test)]
 mod trees;

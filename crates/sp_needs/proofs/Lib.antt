@@ -1,0 +1,11 @@
+mod Membership
+mod Outcome
+mod Added
+mod Granules
+mod Parts
+mod Losing
+mod Gaining
+mod Giving
+mod Sources
+mod Wanted
+mod Whole
