@@ -1,5 +1,6 @@
 //! The laws of granular locking: what needs on granules license a change of the tree, and why transactions
-//! whose rectangles are guarded do not see each other.
+//! whose rectangles are guarded do not see each other. Each law is the contract of a function that does
+//! nothing; the definitions stand in specs/, and the lemmas in proofs/ are open to the crates above.
 #![tactic(auto)]
 
 mod insertion;
@@ -7,7 +8,7 @@ mod licensing;
 mod phantoms;
 mod replays;
 
-pub use insertion::{insertion_keeps_all, puts_keep_their_own};
+pub use insertion::{insertion_keeps_all, insertions_keep_marks_owned, puts_keep_their_own};
 pub use licensing::{
     held_needs_are_unopposed, licensed_change_keeps, needs_license, short_needs_license,
 };
