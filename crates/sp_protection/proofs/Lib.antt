@@ -10,3 +10,4 @@ pub mod Insertions
 pub mod Wanted
 pub mod Rules
 pub mod Marking
+pub mod Places

@@ -7,6 +7,7 @@ mod insertion;
 mod licensing;
 mod phantoms;
 mod replays;
+mod standing;
 
 pub use insertion::{insertion_keeps_all, insertions_keep_marks_owned, puts_keep_their_own};
 pub use licensing::{
@@ -17,3 +18,4 @@ pub use replays::{
     commits_are_apart, ids_are_distinct, marks_are_owned, operations_apply, order_is_free,
     own_locks_are_enough, rollbacks_are_apart, undisturbed,
 };
+pub use standing::{entries_stand_once, plans_keep_standings};
