@@ -11,3 +11,4 @@ pub mod Wanted
 pub mod Rules
 pub mod Marking
 pub mod Places
+pub mod Removals
