@@ -21,10 +21,11 @@ use Rattle.sp_granule.specs.Granules.{Granule, Standing, standing}
 use Rattle.sp_txn.specs.Visible.{is_visible, record_for, view}
 use Rattle.sp_protection.specs.Holding.{Lock, HoldsMode}
 use Rattle.sp_protection.specs.Guarding.{Guarded, Owned, MarksOwned}
-use Rattle.sp_protection.specs.Effects.{is_seen_in, is_changed, ended_by, drafted_by, marks_by, marked_by, entered, applied}
+use Rattle.sp_protection.specs.Effects.{is_seen_in, is_changed, ended_by, drafted_by, marks_by, marked_by, fresh, entered, applied}
 use Rattle.sp_protection.specs.Replays.{HoldsPart}
+use Rattle.sp_protection.specs.Insertion.{KeepsAll}
 use Rattle.sp_protection.specs.Asking.{KeepsLocks}
-use Rattle.sp_protection.proofs.Choice.{same}
+use Rattle.sp_protection.proofs.Choice.{same, tells}
 use Rattle.sp_protection.proofs.Leaves.{from_map}
 use Rattle.sp_protection.proofs.Commits.{marks_parts, settled-marked}
 use Rattle.sp_protection.proofs.Wanted.{holds_weaker}
@@ -199,3 +200,19 @@ operation_keeps_marks_owned gs locks t number op es changes enters owned v x i m
         let from = from_map (marked_by t op) x es j in
         subst (λ (z : Entry). Owned gs locks v (standing z)) from.2
         (subst (Owned gs locks v) (sym (same_place t op from.0)) (of from.0 from.1 (marked-marked v t op from.0 (subst (λ (z : Entry). is_marked v z ≡ true) (sym from.2) marks))))
+
+-- what an insertion keeps, and its new entry, is owned
+pub insertion_keeps_marks_owned : (gs gs' : List Granule) (locks locks' : List Lock) (t number : ℕ) (r : Record) (es : List Entry) → KeepsAll es gs gs' locks locks' t (standing (fresh t number r)) → MarksOwned gs locks es → MarksOwned gs' locks' (applied t number (Put r) es)
+insertion_keeps_marks_owned gs gs' locks locks' t number r es keeps owned = operation_keeps_marks_owned gs' locks' t number (Put r) es (λ e i h. absurd (true≢false (sym h))) (λ e j. enters e (within (Id r.id) (view es t)) j) (λ v e i marks. moved v e i marks (nat_eq v t) refl)
+  where
+    enters : (e : Entry) (found : List Record) → Among e (entered t number (Put r) found) → Owned gs' locks' t (standing e)
+    enters e [] (inl s) = subst (λ (z : Entry). Owned gs' locks' t (standing z)) (sym s) keeps.own_new
+    enters e [] (inr k) = absurd k
+    enters e (x ∷ xs) k = absurd k
+
+    moved : (v : ℕ) (e : Entry) → Among e es → is_marked v e ≡ true → (b : Bool) → nat_eq v t ≡ b → Owned gs' locks' v (standing e)
+    moved v e i marks true b =
+        let s = same v t b in
+        subst (λ n. Owned gs' locks' n (standing e)) (sym s)
+        (keeps.own_owned (standing e) (e, i, subst (λ n. is_marked n e ≡ true) s marks, refl) (subst (λ n. Owned gs locks n (standing e)) s (owned v e i marks)))
+    moved v e i marks false b = keeps.owned v (standing e) (λ s. true≢false (sym (tells v t s) ∙ b)) (owned v e i marks)
