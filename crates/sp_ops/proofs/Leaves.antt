@@ -42,7 +42,7 @@ meet_at a b p h k =
     meets-from_Overlap a b (record { left = omega (arith, ints); right = omega (arith, ints); lower = omega (arith, ints); upper = omega (arith, ints) })
 
 -- an entry of a node stands in its granule, and what stands in the granule is one of the node's
-stands_at : (level number : ℕ) (space : Rectangle) (body : Body level) (e : Entry) → Among e (entries_of_node (node level body)) → StandsIn e (granule_of_node level number space body)
+pub stands_at : (level number : ℕ) (space : Rectangle) (body : Body level) (e : Entry) → Among e (entries_of_node (node level body)) → StandsIn e (granule_of_node level number space body)
 stands_at zero number space body e a = (refl, among_map standing body e a)
 stands_at (suc level) number space body e a = absurd a
 

@@ -3,3 +3,7 @@ mod Arranging
 mod Seeing
 mod Leaves
 mod Reasons
+mod ByNumber
+mod Parts
+mod Alike
+mod Entering

@@ -3,9 +3,12 @@
 #![tactic(auto)]
 
 mod acting;
+mod areas;
 mod effects;
 mod marking;
+mod needing;
 mod object;
+mod putting;
 mod replies;
 mod seen;
 mod staying;
@@ -13,5 +16,6 @@ mod wants;
 
 pub use acting::effect;
 pub use effects::{Effect, Marked};
+pub use needing::commit_needs;
 pub use object::name_of;
 pub use wants::{Want, joined};

@@ -17,8 +17,12 @@ use sp_node::Tree;
 use sp_rect::{Op, Rect};
 use std::alloc::{AllocError, Global};
 
-// Adds the mode on each of the granules.
-fn push_granules(wants: &mut Vec<Want>, numbers: &[u64], mode: Mode) -> Result<(), AllocError>
+/// Adds the mode on each of the granules.
+pub(crate) fn push_granules(
+    wants: &mut Vec<Want>,
+    numbers: &[u64],
+    mode: Mode,
+) -> Result<(), AllocError>
     ensures { OnOk result (wants.new.items ≡ wants.old.items ++ map (on_granule mode) numbers.now) }
 {
     for number in numbers {
