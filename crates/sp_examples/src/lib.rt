@@ -6,4 +6,6 @@ mod granules;
 #[cfg(test)]
 mod needs;
 #[cfg(test)]
+mod plain_needs;
+#[cfg(test)]
 mod trees;

@@ -73,7 +73,12 @@ const CASES: [Case; 7] = [
     },
     // the root, a leaf, is split: it loses points and gives entries away
     Case {
-        tree: &[(0, 0, 2, 2), (8, 8, 10, 10), (100, 0, 102, 2), (108, 8, 110, 10)],
+        tree: &[
+            (0, 0, 2, 2),
+            (8, 8, 10, 10),
+            (100, 0, 102, 2),
+            (108, 8, 110, 10),
+        ],
         put: (4, 4, 6, 6),
         wanted: &[(1, Mode::SIX)],
     },

@@ -59,6 +59,13 @@ pub fn plan_of(alloc: Global, tree: &Tree, number: u64, rect: Rect) -> Result<Pl
 
 fn insert(alloc: Global, tree: &mut Tree, number: u64, rect: Rect) -> Result<(), Fail> {
     let plan = plan_of(alloc, tree, number, rect)?;
+    adopt(tree, plan)
+}
+
+/// Puts the plan's nodes in place of the tree's.
+pub fn adopt(tree: &mut Tree, plan: Plan) -> Result<(), Fail>
+    requires { IsMadeOf tree.old.table plan }
+{
     tree.make_room(&plan)?;
     tree.adopt(plan);
     Ok(())
