@@ -3,8 +3,12 @@ mod Chunks
 mod Corner
 mod Crashes
 mod Framing
+mod Heads
 mod Making
 mod Pages
 mod Passing
+mod Payloads
 mod Readers
 mod Turning
+mod Turns
+mod Walking

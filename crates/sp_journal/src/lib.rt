@@ -1,14 +1,19 @@
 //! The journal: commits on a disk that may stop at any moment.
 #![tactic(auto)]
 
+mod chain;
+mod contents;
 mod create;
+mod entry;
 mod decode;
 mod encode;
 mod frames;
 mod journal;
+mod kind;
 mod payload;
 #[cfg(test)]
 mod tests;
+mod turn;
 mod types;
 mod work;
 

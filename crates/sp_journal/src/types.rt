@@ -1,4 +1,5 @@
 // What is recovered, and what calls answer.
+use sp_disk::DiskError;
 use sp_rect::Records;
 use thiserror::Error;
 
@@ -40,4 +41,18 @@ pub enum Call {
     Fault(u64),
     /// The disk wants memory. Nothing has changed.
     Memory,
+}
+
+impl From<DiskError> for JournalError {
+    ghost use Rattle.std.specs.Prelude.{◌≡◌};
+    ghost use Rattle.sp_journal.specs.Faulting.{of_disk};
+
+    ghost from_gives = { λ e gave. gave ≡ of_disk e };
+
+    fn from(error: DiskError) -> Self {
+        match error {
+            DiskError::Fault => JournalError::Fault,
+            DiskError::Memory => JournalError::Memory,
+        }
+    }
 }
