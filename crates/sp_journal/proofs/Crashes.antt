@@ -18,7 +18,7 @@ unfolding header_bytes
 length-header version generation = omega (arith, length-append ((83 ∷ 80 ∷ 74 ∷ 76 ∷ []) ++ u32_bytes version) (u64_bytes generation), length-append (83 ∷ 80 ∷ 74 ∷ 76 ∷ []) (u32_bytes version), length-u32 version, length-u64 generation)
 
 -- no entries lead to nothing
-leads_none : (generation : ℕ) (front : List ℕ) (found : Recovered) → Leads generation front found → length front ≡ 0 → found ≡ nothing
+pub leads_none : (generation : ℕ) (front : List ℕ) (found : Recovered) → Leads generation front found → length front ≡ 0 → found ≡ nothing
 leads_none generation front found start none = refl
 leads_none generation front found (more before payload was after leads enters) none = absurd (omega (arith, length-append before (entry_bytes payload)))
 

@@ -9,6 +9,7 @@ mod Pages
 mod Passing
 mod Payloads
 mod Readers
+mod Scans
 mod Turning
 mod Turns
 mod Walking

@@ -5,4 +5,5 @@ pub mod Kinds
 pub mod Looking
 pub mod Reading
 pub mod Recovery
+pub mod Scanning
 pub mod Standing

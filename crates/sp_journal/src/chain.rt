@@ -1,10 +1,12 @@
 // The entries of a file that were read so far.
 ghost use Rattle.std.specs.Prelude.{◌<◌, ◌≤◌, ◌^◌};
 
+use crate::Recovered;
 use crate::contents::{load, make_batch};
 use crate::decode::Unread;
+use sp_list::Duplicate;
 use sp_plain::Plain;
-use std::alloc::Global;
+use std::alloc::{AllocError, Global};
 
 /// The entries that were read so far, and what they lead to.
 #[derive(Drop)]
@@ -25,7 +27,8 @@ pub struct Chain {
 
 impl Chain {
     ghost use Rattle.std.specs.Prelude.{◌≡◌, ◌+◌, ◌<◌, ◌≤◌, ◌^◌, [], ℕ, List, length, OnOk, OnErr, IsErrOf};
-    ghost use Rattle.sp_journal.specs.declared.types.Recovered.{Recovered};
+    ghost use Rattle.std.specs.Prelude.{IfOk};
+    ghost use Rattle.sp_journal.specs.declared.types.Recovered.{Recovered as RecoveredOf};
     ghost use Rattle.sp_journal.specs.Recovery.{nothing, Enters};
     ghost use Rattle.sp_journal.specs.Chaining.{found_in};
 
@@ -48,8 +51,8 @@ impl Chain {
     // Takes in a checkpoint of that payload.
     fn begin(&mut self, payload: &[u8]) -> Result<(), Unread>
         requires { self.old.at + 5 + length payload.now < 2 ^ 63 }
-        ensures entered { (found : Recovered) → 2 ≤ self.old.generation → OnOk result (Enters self.old.generation [] found payload.now (found_in self.new)) }
-        ensures refused { (found after : Recovered) → 2 ≤ self.old.generation → IsErrOf result Unread.Bad → Enters self.old.generation [] found payload.now after → ⊥ }
+        ensures entered { (found : RecoveredOf) → 2 ≤ self.old.generation → OnOk result (Enters self.old.generation [] found payload.now (found_in self.new)) }
+        ensures refused { (found after : RecoveredOf) → 2 ≤ self.old.generation → IsErrOf result Unread.Bad → Enters self.old.generation [] found payload.now after → ⊥ }
         ensures place { OnOk result (self.new.at ≡ self.old.at + 5 + length payload.now) }
         ensures stays { OnErr result (self.new.at ≡ self.old.at) }
         ensures generation { self.new.generation ≡ self.old.generation }
@@ -66,7 +69,7 @@ impl Chain {
         requires short { length payload.now < 2 ^ 32 }
         requires fits { self.old.at + 5 + length payload.now < 2 ^ 63 }
         ensures entered { (front : List ℕ) → (2 ≤ self.old.generation → 1 ≤ length front) → OnOk result (Enters self.old.generation front (found_in self.old) payload.now (found_in self.new)) }
-        ensures refused { (front : List ℕ) (after : Recovered) → (2 ≤ self.old.generation → 1 ≤ length front) → IsErrOf result Unread.Bad → Enters self.old.generation front (found_in self.old) payload.now after → ⊥ }
+        ensures refused { (front : List ℕ) (after : RecoveredOf) → (2 ≤ self.old.generation → 1 ≤ length front) → IsErrOf result Unread.Bad → Enters self.old.generation front (found_in self.old) payload.now after → ⊥ }
         ensures place { OnOk result (self.new.at ≡ self.old.at + 5 + length payload.now) }
         ensures stays { OnErr result (self.new.at ≡ self.old.at) }
         ensures generation { self.new.generation ≡ self.old.generation }
@@ -84,7 +87,7 @@ impl Chain {
         requires short { length payload.now < 2 ^ 32 }
         requires fits { self.old.at + 5 + length payload.now < 2 ^ 63 }
         ensures entered { (front : List ℕ) → self.old.at ≡ 16 + length front → OnOk result (Enters self.old.generation front (found_in self.old) payload.now (found_in self.new)) }
-        ensures refused { (front : List ℕ) (after : Recovered) → self.old.at ≡ 16 + length front → IsErrOf result Unread.Bad → Enters self.old.generation front (found_in self.old) payload.now after → ⊥ }
+        ensures refused { (front : List ℕ) (after : RecoveredOf) → self.old.at ≡ 16 + length front → IsErrOf result Unread.Bad → Enters self.old.generation front (found_in self.old) payload.now after → ⊥ }
         ensures place { OnOk result (self.new.at ≡ self.old.at + 5 + length payload.now) }
         ensures stays { OnErr result (self.new.at ≡ self.old.at) }
         ensures generation { self.new.generation ≡ self.old.generation }
@@ -94,5 +97,16 @@ impl Chain {
         } else {
             self.add(payload)
         }
+    }
+
+    /// What the entries lead to. Costs a copy of the records.
+    pub fn recovered(&self) -> Result<Recovered, AllocError>
+        ensures { IfOk result (λ found. found ≡ found_in self.now) }
+    {
+        Ok(Recovered {
+            records: self.store.records().copy(self.alloc)?,
+            batches: self.batches,
+            commits: self.commits,
+        })
     }
 }

@@ -75,7 +75,8 @@ fn read_header(front: &[u8]) -> Option<Header>
 
 // What a file of that length is which begins with these bytes, if it has so many.
 fn kind_of(len: u64, front: &[u8; 17]) -> Kind
-    ensures { (file : List ℕ) → length file ≡ len → (17 ≤ len → front.now ≡ take 17 file) → IsKind file result }
+    ensures kind { (file : List ℕ) → length file ≡ len → (17 ≤ len → front.now ≡ take 17 file) → IsKind file result }
+    ensures long { (version generation : ℕ) → result ≡ Kind.Settled version generation → 17 < len }
 {
     if len <= 17 {
         return Kind::Empty;
@@ -103,6 +104,7 @@ fn kind_with(header: Header, gate: u8) -> Kind
 /// What a file of that length is.
 pub fn kind_on<D: Disk>(disk: &mut D, len: u64) -> Result<Kind, DiskError>
     ensures kind { IsTrue (D.tells disk.old) → length (D.reads disk.old) ≡ len → IfOk result (IsKind (D.reads disk.old)) }
+    ensures long { IfOk result (λ kind. (version generation : ℕ) → kind ≡ Kind.Settled version generation → 17 < len) }
     ensures looks { IsTrue (D.tells disk.old) → OnlyReads (D.moment disk.old) (D.moment disk.new) (D.reads disk.old) (D.reads disk.new) (D.images disk.old) (D.images disk.new) }
     ensures cause { HasCause (D.takes_memory disk.old) (D.faults disk.old) (D.faults disk.new) result }
     ensures tells { D.tells disk.new ≡ D.tells disk.old }

@@ -11,6 +11,7 @@ mod frames;
 mod journal;
 mod kind;
 mod payload;
+mod scan;
 #[cfg(test)]
 mod tests;
 mod turn;

@@ -2,7 +2,7 @@
 ghost use Rattle.std.specs.Prelude.{◌≡◌, ◌≢◌, ◌+◌, ◌<◌, ◌≤◌, ◌^◌, ℕ, List, length, IsTrue, IfOk, IfErr, IsErrOf};
 ghost use Rattle.sp_disk.specs.Faults.{Rose};
 ghost use Rattle.sp_journal.specs.Recovery.{Base, Enters};
-ghost use Rattle.sp_journal.specs.Chaining.{Reached, Turned, found_in};
+ghost use Rattle.sp_journal.specs.Chaining.{Reached, Turned, Stopped, found_in};
 ghost use Rattle.sp_journal.specs.declared.types.Recovered.{Recovered};
 ghost use Rattle.sp_journal.specs.Looking.{OnlyReads};
 
@@ -47,6 +47,7 @@ fn turn_at<D: Disk>(disk: &mut D, chain: &mut Chain, len: u64) -> Result<Turn, D
     requires small { len < 2 ^ 63 }
     ensures turned { (base : Base) → IsTrue (D.tells disk.old) → length (D.reads disk.old) ≡ len → Reached (D.reads disk.old) chain.old base → IfOk result (λ turn. Turned turn (D.reads disk.old) chain.new base) }
     ensures on { IfOk result (λ turn. turn ≡ Turn.Entered → (chain.old.at < chain.new.at) × (chain.new.at < len)) }
+    ensures generation { chain.new.generation ≡ chain.old.generation }
     ensures looks { IsTrue (D.tells disk.old) → OnlyReads (D.moment disk.old) (D.moment disk.new) (D.reads disk.old) (D.reads disk.new) (D.images disk.old) (D.images disk.new) }
     ensures later { D.faults disk.old ≤ D.faults disk.new }
     ensures fault { IsErrOf result DiskError.Fault → Rose (D.faults disk.old) (D.faults disk.new) }
@@ -60,5 +61,25 @@ fn turn_at<D: Disk>(disk: &mut D, chain: &mut Chain, len: u64) -> Result<Turn, D
     match read_payload(chain.alloc, disk, chain.at, front.size, len)? {
         Some(payload) => take_in(chain, payload.as_slice()),
         None => Ok(Turn::Damaged),
+    }
+}
+
+/// Reads the entries from the gate that comes next on, up to one behind which there is none.
+pub fn walk<D: Disk>(disk: &mut D, chain: &mut Chain, len: u64) -> Result<Turn, DiskError>
+    requires inside { chain.old.at < len }
+    requires small { len < 2 ^ 63 }
+    ensures stopped { (base : Base) → IsTrue (D.tells disk.old) → length (D.reads disk.old) ≡ len → Reached (D.reads disk.old) chain.old base → IfOk result (λ turn. Stopped turn (D.reads disk.old) chain.new base.version) }
+    ensures generation { chain.new.generation ≡ chain.old.generation }
+    ensures looks { IsTrue (D.tells disk.old) → OnlyReads (D.moment disk.old) (D.moment disk.new) (D.reads disk.old) (D.reads disk.new) (D.images disk.old) (D.images disk.new) }
+    ensures later { D.faults disk.old ≤ D.faults disk.new }
+    ensures fault { IsErrOf result DiskError.Fault → Rose (D.faults disk.old) (D.faults disk.new) }
+    ensures tells { D.tells disk.new ≡ D.tells disk.old }
+    ensures takes { D.takes_memory disk.new ≡ D.takes_memory disk.old }
+{
+    'walk: loop {
+        let turn = turn_at(disk, chain, len)?;
+        if turn != Turn::Entered {
+            return Ok(turn);
+        }
     }
 }

@@ -1,6 +1,7 @@
 // What is recovered, and what calls answer.
 use sp_disk::DiskError;
 use sp_rect::Records;
+use std::alloc::AllocError;
 use thiserror::Error;
 
 /// What a journal holds: the records after all its entries, and how many batches and commits it has
@@ -41,6 +42,17 @@ pub enum Call {
     Fault(u64),
     /// The disk wants memory. Nothing has changed.
     Memory,
+}
+
+impl From<AllocError> for JournalError {
+    ghost use Rattle.std.specs.Prelude.{◌≡◌};
+    ghost use Rattle.sp_journal.specs.declared.types.JournalError.TheVariants.{Memory};
+
+    ghost from_gives = { λ _ e. e ≡ Memory };
+
+    fn from(_: AllocError) -> Self {
+        JournalError::Memory
+    }
 }
 
 impl From<DiskError> for JournalError {
