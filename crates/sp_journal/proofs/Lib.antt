@@ -5,9 +5,11 @@ mod Crashes
 mod Framing
 mod Heads
 mod Making
+mod Outcomes
 mod Pages
 mod Passing
 mod Payloads
+mod Prefixes
 mod Readers
 mod Scans
 mod Turning

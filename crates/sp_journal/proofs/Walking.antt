@@ -53,7 +53,7 @@ unfolding u32_bytes body_bytes
 same_size payload next rest after size small few is body =
     sym (big_number-reads_back 4 (length payload) (payload ++ next) small) ∙ ap (λ (l : List ℕ). big_number 4 l) (sym (append_assoc (u32_bytes (length payload)) payload next) ∙ sym body ∙ is) ∙ big_number-reads_back 4 size after few
 
-body_parts : (payload next : List ℕ) → body_bytes payload ++ next ≡ u32_bytes (length payload) ++ (payload ++ next)
+pub body_parts : (payload next : List ℕ) → body_bytes payload ++ next ≡ u32_bytes (length payload) ++ (payload ++ next)
 unfolding body_bytes
 body_parts payload next = append_assoc (u32_bytes (length payload)) payload next
 

@@ -10,6 +10,7 @@ mod encode;
 mod frames;
 mod journal;
 mod kind;
+mod laws;
 mod payload;
 mod scan;
 #[cfg(test)]
@@ -19,4 +20,5 @@ mod types;
 mod work;
 
 pub use journal::Journal;
+pub use laws::outcome_is_one;
 pub use types::{Call, JournalError, Recovered};
