@@ -64,7 +64,7 @@ is_unfinished version generation gate tail file long is low shut stands =
     unfinished generation gate tail long low second.1 shut (stands ∙ ap (λ (v : ℕ). header_bytes v generation ++ gate ∷ tail) second.0)
 
 pub is_settled : (version generation gate : ℕ) (tail file : List ℕ) → 17 < length file → IsHeader version generation → (generation < 2) ⊎ (gate ≡ 1) → file ≡ header_bytes version generation ++ gate ∷ tail → IsKind file (Settled version generation)
-is_settled version generation gate tail file long is which stands = settled version generation gate tail long is (λ low. elim which [ | inl less ↦ absurd (omega arith) | inr open_gate ↦ open_gate ]) stands
+is_settled version generation gate tail file long is which stands = settled version generation gate tail long is (λ low. elim which [ inl less ↦ absurd (omega arith) | inr open_gate ↦ open_gate ]) stands
 
 -- the header and what stands behind it
 whole_front : (version generation : ℕ) (front : List ℕ) → take 16 front ≡ header_bytes version generation → front ≡ (83 ∷ 80 ∷ 74 ∷ 76 ∷ []) ++ (u32_bytes version ++ (u64_bytes generation ++ drop 16 front))

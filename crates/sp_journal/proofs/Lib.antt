@@ -5,6 +5,7 @@ mod Crashes
 mod Framing
 mod Heads
 mod Making
+mod Opened
 mod Outcomes
 mod Pages
 mod Passing

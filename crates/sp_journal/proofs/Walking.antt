@@ -87,12 +87,12 @@ too_long file chain base size reached inside few here sized long =
       at = reached.at;
       rest = rest;
       none = λ entry.
-      let short = short_payload base.generation base.front entry.payload base.found entry.after entry.enters in
-      let parts : length rest ≡ 4 + length entry.payload + length entry.next =
-      ap length (entry.is ∙ body_parts entry.payload entry.next) ∙ omega (arith, length-append (u32_bytes (length entry.payload)) (entry.payload ++ entry.next), length-append entry.payload entry.next, length-u32 (length entry.payload)) in
-      let same : length entry.payload ≡ size = same_size entry.payload entry.next rest (drop 4 rest) size short few (sized (omega (arith, parts))) entry.is in
-      let some = entry.gate in
-      omega (arith, length-drop (chain.at + 1) file, parts, same, some);
+          let short = short_payload base.generation base.front entry.payload base.found entry.after entry.enters in
+          let parts : length rest ≡ 4 + length entry.payload + length entry.next =
+          ap length (entry.is ∙ body_parts entry.payload entry.next) ∙ omega (arith, length-append (u32_bytes (length entry.payload)) (entry.payload ++ entry.next), length-append entry.payload entry.next, length-u32 (length entry.payload)) in
+          let same : length entry.payload ≡ size = same_size entry.payload entry.next rest (drop 4 rest) size short few (sized (omega (arith, parts))) entry.is in
+          let some = entry.gate in
+          omega (arith, length-drop (chain.at + 1) file, parts, same, some);
       stands = reached.stands ∙ ap (λ (l : List ℕ). head base ++ l) here;
     }
 
@@ -114,12 +114,12 @@ no_entry file payload chain after_chain base size reached inside few here sized 
       at = stays ∙ reached.at;
       rest = rest;
       none = λ entry.
-      let short = short_payload base.generation base.front entry.payload base.found entry.after entry.enters in
-      let same : length entry.payload ≡ size = same_size entry.payload entry.next rest (drop 4 rest) size short few sized entry.is in
-      let body : body_bytes payload ++ drop (chain.at + 5 + size) file ≡ body_bytes entry.payload ++ entry.next = sym (body_here file payload chain.at size sized long behind) ∙ entry.is in
-      let is : payload ≡ entry.payload = same_payload payload (drop (chain.at + 5 + size) file) entry.payload entry.next (long ∙ sym same) body in
-      none entry.after (subst (λ (p : List ℕ). Enters chain.generation base.front (found_in chain) p entry.after) (sym is)
-      (subst (λ (f : Recovered). Enters chain.generation base.front f entry.payload entry.after) reached.found (subst (λ (g : ℕ). Enters g base.front base.found entry.payload entry.after) reached.generation entry.enters)));
+          let short = short_payload base.generation base.front entry.payload base.found entry.after entry.enters in
+          let same : length entry.payload ≡ size = same_size entry.payload entry.next rest (drop 4 rest) size short few sized entry.is in
+          let body : body_bytes payload ++ drop (chain.at + 5 + size) file ≡ body_bytes entry.payload ++ entry.next = sym (body_here file payload chain.at size sized long behind) ∙ entry.is in
+          let is : payload ≡ entry.payload = same_payload payload (drop (chain.at + 5 + size) file) entry.payload entry.next (long ∙ sym same) body in
+          none entry.after (subst (λ (p : List ℕ). Enters chain.generation base.front (found_in chain) p entry.after) (sym is)
+          (subst (λ (f : Recovered). Enters chain.generation base.front f entry.payload entry.after) reached.found (subst (λ (g : ℕ). Enters g base.front base.found entry.payload entry.after) reached.generation entry.enters)));
       stands = reached.stands ∙ ap (λ (l : List ℕ). head base ++ l) here;
     }
   where

@@ -3,6 +3,7 @@ pub mod Faulting
 pub mod Format
 pub mod Kinds
 pub mod Looking
+pub mod Opening
 pub mod Reading
 pub mod Recovery
 pub mod Scanning

@@ -2,7 +2,7 @@
 use Rattle.std.specs.Prelude.{◌≡◌, ◌≢◌, ◌≤◌, ℕ, List, ◌∷◌, ◌++◌, length}
 use Rattle.sp_journal.specs.declared.kind.Kind.{Kind}
 use Rattle.sp_journal.specs.declared.kind.Kind.TheVariants.{Empty, Foreign, Unfinished, Settled}
-use Rattle.sp_journal.specs.declared.scan.Scan.{Scan}
+use Rattle.sp_journal.specs.declared.scanned.Scan.{Scan}
 use Rattle.sp_journal.specs.declared.types.Recovered.{Recovered}
 use Rattle.sp_journal.specs.Kinds.{IsKind}
 use Rattle.sp_journal.specs.Recovery.{Base, IsBase, head, nothing}
@@ -20,8 +20,8 @@ pub record Rests (file : List ℕ) (end : ℕ) (base : Base) : Type 0 where
 
 -- what a file of that kind holds
 abbrev pub Held : Kind → List ℕ → ℕ → Recovered → Type 0
-Held Empty file end found = found ≡ nothing
-Held Unfinished file end found = found ≡ nothing
+Held Empty file end found = (found ≡ nothing) × (end ≡ 16)
+Held Unfinished file end found = (found ≡ nothing) × (end ≡ 16)
 Held Foreign file end found = ⊥
 Held (Settled version generation) file end found = (base : Base) × (base.version ≡ version) × (base.generation ≡ generation) × (base.found ≡ found) × Rests file end base
 

@@ -42,7 +42,13 @@ pub fn read_front<D: Disk>(disk: &mut D, at: u64) -> Result<Front, DiskError>
 
 /// The payload of that size behind the gate at that offset of a file of that length. `None` comes where the
 /// payload and the next gate do not lie in the file: then no memory is taken.
-pub fn read_payload<D: Disk>(alloc: Global, disk: &mut D, at: u64, size: u32, len: u64) -> Result<Option<Vec<u8>>, DiskError>
+pub fn read_payload<D: Disk>(
+    alloc: Global,
+    disk: &mut D,
+    at: u64,
+    size: u32,
+    len: u64,
+) -> Result<Option<Vec<u8>>, DiskError>
     requires inside { at < len }
     requires small { len < 2 ^ 63 }
     ensures whole { IsTrue (D.tells disk.old) → length (D.reads disk.old) ≡ len → IfOk result (λ read. IfSome read (λ bytes. drop (at + 5) (D.reads disk.old) ≡ bytes.items ++ drop (at + 5 + size) (D.reads disk.old))) }

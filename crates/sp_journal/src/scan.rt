@@ -11,23 +11,20 @@ ghost use Rattle.sp_journal.specs.Scanning.{IsScan};
 
 use crate::chain::Chain;
 use crate::kind::{Kind, kind_on};
+use crate::scanned::Scan;
 use crate::turn::{Turn, walk};
 use crate::{JournalError, Recovered};
 use sp_disk::Disk;
 use sp_rect::Records;
 use std::alloc::Global;
 
-/// What was read of a file.
-#[derive(Drop)]
-pub struct Scan {
-    pub kind: Kind,
-    /// The offset of the gate behind the entries.
-    pub end: u64,
-    pub found: Recovered,
-}
-
 // The entries of a settled file of that length and generation.
-fn entries<D: Disk>(alloc: Global, disk: &mut D, len: u64, generation: u64) -> Result<Chain, JournalError>
+fn entries<D: Disk>(
+    alloc: Global,
+    disk: &mut D,
+    len: u64,
+    generation: u64,
+) -> Result<Chain, JournalError>
     requires long { 17 < len }
     requires small { len < 2 ^ 63 }
     ensures ended { (version : ℕ) → IsTrue (D.tells disk.old) → length (D.reads disk.old) ≡ len → IsHeader version generation → D.reads disk.old ≡ header_bytes version generation ++ drop 16 (D.reads disk.old) → IfOk result (λ chain. (base : Base) × (base.version ≡ version) × Ended (D.reads disk.old) chain base) }
@@ -48,7 +45,13 @@ fn entries<D: Disk>(alloc: Global, disk: &mut D, len: u64, generation: u64) -> R
 }
 
 // What a settled file of that length, version and generation holds.
-fn settled<D: Disk>(alloc: Global, disk: &mut D, len: u64, version: u32, generation: u64) -> Result<Scan, JournalError>
+fn settled<D: Disk>(
+    alloc: Global,
+    disk: &mut D,
+    len: u64,
+    version: u32,
+    generation: u64,
+) -> Result<Scan, JournalError>
     requires long { 17 < len }
     requires small { len < 2 ^ 63 }
     ensures scan { IsTrue (D.tells disk.old) → length (D.reads disk.old) ≡ len → IsKind (D.reads disk.old) (Kind.Settled version generation) → IfOk result (IsScan (D.reads disk.old)) }
@@ -74,6 +77,7 @@ fn settled<D: Disk>(alloc: Global, disk: &mut D, len: u64, version: u32, generat
 // What a file holds that is to be made anew.
 fn unmade(alloc: Global, kind: Kind) -> Scan
     ensures kind { result.kind ≡ kind }
+    ensures end { result.end ≡ 16 }
     ensures found { result.found ≡ nothing }
 {
     Scan {
