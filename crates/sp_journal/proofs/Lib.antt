@@ -1,18 +1,18 @@
 mod Bounds
 mod Chunks
 mod Corner
-mod Crashes
+pub mod Crashes
 mod Framing
 mod Heads
-mod Making
-mod Opened
-mod Outcomes
+pub mod Making
+pub mod Opened
+pub mod Outcomes
 mod Pages
-mod Passing
+pub mod Passing
 mod Payloads
-mod Prefixes
+pub mod Prefixes
 mod Readers
-mod Scans
+pub mod Scans
 mod Turning
 mod Turns
-mod Walking
+pub mod Walking

@@ -2,7 +2,7 @@
 use Rattle.std.specs.Prelude.{◌≡◌, ◌⊎◌, ◌≤◌, ◌+◌, ◌↔◌, ℕ, List, []}
 use Rattle.sp_disk.specs.Moments.{LeavesOnly}
 use Rattle.sp_journal.specs.declared.types.JournalError.{JournalError}
-use Rattle.sp_journal.specs.declared.types.JournalError.TheVariants.{Foreign as SaysForeign, Damaged as SaysDamaged, Fault, Memory}
+use Rattle.sp_journal.specs.declared.types.JournalError.TheVariants.{Foreign as SaysForeign, Damaged as SaysDamaged, Worn, Fault, Memory}
 use Rattle.sp_journal.specs.declared.types.Recovered.{Recovered}
 use Rattle.sp_journal.specs.declared.work.Work.{Work}
 use Rattle.sp_journal.specs.Recovery.{Base, Outcome, Foreign, Damaged, Holds, Recovers, NeedsMaking, new_file}
@@ -45,5 +45,6 @@ pub record IsAttached (was reads : List ℕ) (leaves : List ℕ → Type 0) (wor
 abbrev pub Refused : JournalError → List ℕ → List ℕ → Type 0
 Refused SaysForeign was reads = Recovers was Foreign × (reads ≡ was)
 Refused (SaysDamaged at) was reads = Recovers was (Damaged at) × (reads ≡ was)
+Refused Worn was reads = ⊥
 Refused Fault was reads = Unit {0}
 Refused Memory was reads = Unit {0}

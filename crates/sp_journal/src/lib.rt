@@ -22,7 +22,11 @@ mod turn;
 mod types;
 mod work;
 
+pub use encode::checkpoint;
 pub use inspection::inspect;
 pub use journal::Journal;
+pub use kind::{Kind, kind_on, write_header};
 pub use laws::outcome_is_one;
+pub use scan::scan_file;
+pub use scanned::Scan;
 pub use types::{Call, JournalError, Recovered};

@@ -31,6 +31,7 @@ fn entries<D: Disk>(
     ensures generation { IfOk result (λ chain. chain.generation ≡ generation) }
     ensures damaged { (version at : ℕ) → IsTrue (D.tells disk.old) → length (D.reads disk.old) ≡ len → IsHeader version generation → D.reads disk.old ≡ header_bytes version generation ++ drop 16 (D.reads disk.old) → IsErrOf result (JournalError.Damaged at) → Recovers (D.reads disk.old) (Damaged at) }
     ensures foreign { IsErrOf result JournalError.Foreign → ⊥ }
+    ensures worn { IsErrOf result JournalError.Worn → ⊥ }
     ensures looks { IsTrue (D.tells disk.old) → OnlyReads (D.moment disk.old) (D.moment disk.new) (D.reads disk.old) (D.reads disk.new) (D.images disk.old) (D.images disk.new) }
     ensures later { D.faults disk.old ≤ D.faults disk.new }
     ensures fault { IsErrOf result JournalError.Fault → Rose (D.faults disk.old) (D.faults disk.new) }
@@ -57,6 +58,7 @@ fn settled<D: Disk>(
     ensures scan { IsTrue (D.tells disk.old) → length (D.reads disk.old) ≡ len → IsKind (D.reads disk.old) (Kind.Settled version generation) → IfOk result (IsScan (D.reads disk.old)) }
     ensures damaged { (at : ℕ) → IsTrue (D.tells disk.old) → length (D.reads disk.old) ≡ len → IsKind (D.reads disk.old) (Kind.Settled version generation) → IsErrOf result (JournalError.Damaged at) → Recovers (D.reads disk.old) (Damaged at) }
     ensures foreign { IsErrOf result JournalError.Foreign → ⊥ }
+    ensures worn { IsErrOf result JournalError.Worn → ⊥ }
     ensures looks { IsTrue (D.tells disk.old) → OnlyReads (D.moment disk.old) (D.moment disk.new) (D.reads disk.old) (D.reads disk.new) (D.images disk.old) (D.images disk.new) }
     ensures later { D.faults disk.old ≤ D.faults disk.new }
     ensures fault { IsErrOf result JournalError.Fault → Rose (D.faults disk.old) (D.faults disk.new) }
@@ -97,6 +99,7 @@ fn unmade(alloc: Global, kind: Kind) -> Scan
 pub fn scan_file<D: Disk>(alloc: Global, disk: &mut D) -> Result<Scan, JournalError>
     ensures scan { IsTrue (D.tells disk.old) → IfOk result (IsScan (D.reads disk.old)) }
     ensures foreign { IsTrue (D.tells disk.old) → IsErrOf result JournalError.Foreign → Recovers (D.reads disk.old) Foreign }
+    ensures worn { IsErrOf result JournalError.Worn → ⊥ }
     ensures damaged { (at : ℕ) → IsTrue (D.tells disk.old) → IsErrOf result (JournalError.Damaged at) → Recovers (D.reads disk.old) (Damaged at) }
     ensures looks { IsTrue (D.tells disk.old) → OnlyReads (D.moment disk.old) (D.moment disk.new) (D.reads disk.old) (D.reads disk.new) (D.images disk.old) (D.images disk.new) }
     ensures later { D.faults disk.old ≤ D.faults disk.new }

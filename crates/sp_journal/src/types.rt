@@ -22,6 +22,9 @@ pub enum JournalError {
     /// The gate at this offset is open, and no whole entry that can be applied stands behind it.
     #[error("damaged at {0}")]
     Damaged(u64),
+    /// The generation is the last that there is, so the journal can't be compacted any more.
+    #[error("worn")]
+    Worn,
     /// The disk failed.
     #[error("the disk failed")]
     Fault,

@@ -46,7 +46,7 @@ pub fn refused(error: JournalError) -> Result<Read, Fail> {
     match error {
         JournalError::Foreign => Ok(Read::Foreign),
         JournalError::Damaged(at) => Ok(Read::Damaged(at)),
-        JournalError::Fault | JournalError::Memory => Err("the disk".into()),
+        JournalError::Worn | JournalError::Fault | JournalError::Memory => Err("the disk".into()),
     }
 }
 
