@@ -70,7 +70,10 @@ fn run(rt: HostRuntime) -> Result<Counts, Stop> {
 
 fn main(rt: HostRuntime) -> ExitCode {
     match run(rt) {
-        Ok(counts) => match println!(rt; "{} {} {}", counts.batches, counts.commits, counts.records) {
+        Ok(counts) => match println!(rt;
+            "{} {} {}",
+            counts.batches, counts.commits, counts.records
+        ) {
             Ok(()) => ExitCode::SUCCESS,
             Err(_) => ExitCode::from(4),
         },

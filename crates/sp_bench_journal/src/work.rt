@@ -1,5 +1,6 @@
 // Batches of puts.
-ghost use Rattle.std.specs.Prelude.{◌≡◌, ◌≤◌, ◌+◌, ◌^◌, length, IfOk, IsTrue};
+ghost use Rattle.std.specs.Prelude.{◌≡◌, ◌≤◌, ◌+◌, ◌^◌, length, IfOk, OnOk};
+ghost use Rattle.sp_journal.specs.declared.work.Phase.TheVariants.{Ready};
 
 use crate::{Counts, Stop};
 use sp_disk::Disk;
@@ -24,13 +25,26 @@ fn puts(alloc: Global, first: u64, count: u16) -> Result<Changes, Stop>
     Ok(changes)
 }
 
-// Writes the batch that is queued: body, sync, gate, sync.
-fn flush<D: Disk>(journal: &mut Journal<D>) -> Result<(), Stop> {
-    for _ in 0..3 {
-        if journal.next_call() != Call::Wrote {
-            return Err(Stop::Disk);
-        }
+// One of the first three calls of a batch.
+fn write_on<D: Disk>(journal: &mut Journal<D>) -> Result<(), Stop>
+    ensures empty { OnOk result (journal.old.work.phase ≡ Ready → journal.new.work.changes ≡ 0) }
+    ensures fewer { journal.new.work.changes ≤ journal.old.work.changes }
+{
+    match journal.next_call() {
+        Call::Wrote => Ok(()),
+        _ => Err(Stop::Disk),
     }
+}
+
+// Writes the batch that is queued: body, sync, gate, sync.
+fn flush<D: Disk>(journal: &mut Journal<D>) -> Result<(), Stop>
+    requires { journal.old.work.phase ≡ Ready }
+    ensures ready { OnOk result (journal.new.work.phase ≡ Ready) }
+    ensures empty { OnOk result (journal.new.work.changes ≡ 0) }
+{
+    write_on(journal)?;
+    write_on(journal)?;
+    write_on(journal)?;
     match journal.next_call() {
         Call::Durable(_) => Ok(()),
         _ => Err(Stop::Disk),

@@ -8,7 +8,7 @@ use Rattle.sp_rect.specs.declared.record.Record.{Record}
 use Rattle.sp_plain.specs.declared.change.Change.{Change}
 use Rattle.sp_plain.specs.Taking.{taken}
 use Rattle.sp_journal.specs.Format.{u32_bytes, u64_bytes, header_bytes, batch_bytes, entry_bytes, framed, IsBatch}
-use Rattle.sp_journal.specs.Recovery.{Base, IsBase, head, nothing, all_changes, with_batch, Leads, start, more, Enters, batch, Recovers, empty, closed, Holds}
+use Rattle.sp_journal.specs.Recovery.{Base, IsBase, head, nothing, all_changes, with_batch, Leads, start, more, batch, Recovers, empty, closed, Holds}
 use Rattle.sp_journal.specs.Standing.{Ledger, applied, with_entry, IsBeforeOrAfter}
 use Rattle.sp_journal.proofs.Chunks.{length-u32, length-u64}
 use Rattle.sp_journal.specs.declared.types.Recovered.{Recovered}

@@ -1,13 +1,13 @@
 -- What stands at the front of a file, and of an entry.
-use Rattle.std.proofs.Common.{◌≡◌, ◌≢◌, ◌⊎◌, inl, inr, ◌+◌, ◌-◌, ◌*◌, ◌/◌, ◌%◌, ◌^◌, ◌<◌, ◌≤◌, ℕ, suc, add-one, List, [], ◌∷◌, ◌++◌, length, take, drop, get_or, refl, sym, ◌∙◌, ap, subst, arith, append_assoc, length-append, take-append-drop}
+use Rattle.std.proofs.Common.{◌≡◌, ◌≢◌, ◌⊎◌, inl, inr, ◌+◌, ◌*◌, ◌/◌, ◌%◌, ◌^◌, ◌<◌, ◌≤◌, ℕ, suc, add-one, List, [], ◌∷◌, ◌++◌, length, take, drop, get_or, refl, sym, ◌∙◌, ap, subst, arith, append_assoc, length-append, take-append-drop}
 use Rattle.std.proofs.lemmas.List.{take_all, take_at, drop_at, take-take, drop_more, get_or-take}
 use Rattle.byteorder.specs.Endian.{big_number}
 use Rattle.byteorder.specs.Numbers.{big_number-reads_back}
-use Rattle.sp_journal.specs.declared.kind.Kind.TheVariants.{Empty, Foreign, Unfinished, Settled}
+use Rattle.sp_journal.specs.declared.kind.Kind.TheVariants.{Foreign, Unfinished, Settled}
 use Rattle.sp_journal.specs.Format.{u32_bytes, u64_bytes, header_bytes}
-use Rattle.sp_journal.specs.Kinds.{IsKind, empty, foreign, unfinished, settled}
+use Rattle.sp_journal.specs.Kinds.{IsKind, foreign, unfinished, settled}
 use Rattle.sp_journal.specs.Recovery.{IsHeader}
-use Rattle.sp_journal.proofs.Chunks.{length-u32, length-u64}
+use Rattle.sp_journal.proofs.Chunks.{length-u32}
 use Rattle.sp_journal.proofs.Crashes.{length-header}
 
 digit : (n a r : ℕ) → a < 256 → n ≡ a * 16777216 + r → r < 16777216 → n / 16777216 % 256 ≡ a

@@ -1,18 +1,17 @@
 -- A file that was read and prepared.
-use Rattle.std.proofs.Common.{◌≡◌, ◌≢◌, ◌⊎◌, inl, inr, ◌+◌, ◌<◌, ◌≤◌, ◌↔◌, ℕ, Result, Ok, Err, OnOk, List, [], ◌∷◌, ◌++◌, length, Some, refl, sym, ◌∙◌, ap, subst, arith}
+use Rattle.std.proofs.Common.{◌≡◌, ◌⊎◌, inl, inr, ℕ, Result, Ok, Err, OnOk, List, [], ◌∷◌, ◌++◌, length, refl, sym, ◌∙◌, ap, subst, arith}
 use Rattle.std.proofs.lemmas.List.{append-nil}
 use Rattle.sp_disk.specs.Moments.{Passes, LeavesOnly}
 use Rattle.sp_journal.specs.declared.kind.Kind.{Kind}
 use Rattle.sp_journal.specs.declared.kind.Kind.TheVariants.{Empty, Foreign as IsForeign, Unfinished, Settled}
-use Rattle.sp_journal.specs.declared.scanned.Scan.{Scan}
 use Rattle.sp_journal.specs.declared.types.Recovered.{Recovered}
 use Rattle.sp_journal.specs.declared.work.Phase.TheVariants.{Ready}
 use Rattle.sp_journal.specs.declared.work.Work.{Work}
 use Rattle.sp_journal.specs.Format.{header_bytes, framed}
-use Rattle.sp_journal.specs.Kinds.{IsKind, empty, foreign, unfinished as kind_unfinished, settled}
-use Rattle.sp_journal.specs.Opening.{RecoversAs, Opens, synced, IsReady, IsAttached, KeptOrMade}
-use Rattle.sp_journal.specs.Recovery.{Base, IsBase, Leads, start, head, nothing, Recovers, Holds, NeedsMaking, short, unfinished, HoldsNothing, new_file}
-use Rattle.sp_journal.specs.Scanning.{Held, IsScan, Rests}
+use Rattle.sp_journal.specs.Kinds.{IsKind, empty, unfinished as kind_unfinished}
+use Rattle.sp_journal.specs.Opening.{RecoversAs, Opens, synced, IsReady, IsAttached}
+use Rattle.sp_journal.specs.Recovery.{Base, start, nothing, Recovers, Holds, NeedsMaking, short, unfinished, HoldsNothing, new_file}
+use Rattle.sp_journal.specs.Scanning.{Held, Rests}
 use Rattle.sp_journal.specs.Standing.{Ledger, Stands, IsNext, IsInFlight, Lies}
 use Rattle.sp_journal.proofs.Crashes.{closed_gate, length-head}
 use Rattle.sp_journal.proofs.Making.{file_holds}

@@ -1,11 +1,10 @@
 -- A file is recovered to one outcome.
 use Rattle.std.proofs.Common.{◌≡◌, ◌≢◌, ◌+◌, ◌^◌, ◌<◌, ◌≤◌, ℕ, List, [], ◌∷◌, ◌++◌, length, Some, refl, sym, ◌∙◌, ap, subst, arith, append_assoc, length-append}
-use Rattle.std.proofs.lemmas.List.{append-nil}
 use Rattle.sp_rect.specs.declared.record.Record.{Record}
 use Rattle.sp_plain.specs.Taking.{taken}
 use Rattle.sp_journal.specs.declared.types.Recovered.{Recovered}
-use Rattle.sp_journal.specs.Format.{u32_bytes, header_bytes, body_bytes, entry_bytes, batch_bytes}
-use Rattle.sp_journal.specs.Recovery.{Base, IsBase, IsHeader, Leads, start, more, Enters, batch, checkpoint, HasEntry, all_changes, with_batch, nothing, head, Outcome, Foreign, Damaged, Holds, Recovers, empty, foreign, closed, damaged}
+use Rattle.sp_journal.specs.Format.{header_bytes, body_bytes, entry_bytes}
+use Rattle.sp_journal.specs.Recovery.{Base, IsBase, IsHeader, Leads, start, more, Enters, batch, checkpoint, HasEntry, all_changes, with_batch, nothing, head, Outcome, Damaged, Holds, Recovers, empty, foreign, closed, damaged}
 use Rattle.sp_journal.proofs.Crashes.{length-header}
 use Rattle.sp_journal.proofs.Prefixes.{u32_same, same_front, batch_same, checkpoint_same, header_same}
 use Rattle.sp_journal.proofs.Walking.{short_payload, body_parts}

@@ -1,5 +1,5 @@
 -- What payloads of entries do to the records.
-use Rattle.std.proofs.Common.{◌≡◌, ◌+◌, ◌<◌, ◌≤◌, ◌&&◌, ℕ, suc, add-one, Bool, true, false, not, if◌then◌else◌, List, [], ◌∷◌, ◌++◌, length, take, drop, get_or, map, Some, None, refl, sym, ◌∙◌, ap, subst, arith, append_assoc, length-append, take-append-drop}
+use Rattle.std.proofs.Common.{◌≡◌, ◌+◌, ◌<◌, ◌≤◌, ℕ, add-one, Bool, true, false, if◌then◌else◌, List, [], ◌∷◌, ◌++◌, length, take, drop, get_or, map, Some, None, refl, sym, ◌∙◌, ap, subst, arith, append_assoc, length-append, take-append-drop}
 use Rattle.std.proofs.lemmas.List.{take_more, take_all, append-nil}
 use Rattle.std.proofs.lemmas.Bool.{ne_eqb, lt-leb, lt-ltb}
 use Rattle.std.specs.List.{flat_map}
@@ -7,7 +7,7 @@ use Rattle.sp_rect.specs.Store.{Id, within, with_record, IsOrderedFrom}
 use Rattle.sp_rect.specs.declared.record.Record.{Record}
 use Rattle.sp_plain.specs.declared.change.Change.{Change}
 use Rattle.sp_plain.specs.declared.change.Change.TheVariants.{Put}
-use Rattle.sp_plain.specs.Taking.{taken, can_change, left_by, is_there, most_records}
+use Rattle.sp_plain.specs.Taking.{taken, can_change, left_by, most_records}
 use Rattle.sp_journal.specs.declared.types.Recovered.{Recovered}
 use Rattle.sp_journal.specs.Format.{u32_bytes, change_bytes, commit_bytes, batch_bytes, checkpoint_bytes, IsBatch, IsCheckpoint}
 use Rattle.sp_journal.specs.Recovery.{all_changes, Enters, batch, checkpoint}

@@ -1,18 +1,17 @@
 -- What the end of a file's entries says of the whole file.
-use Rattle.std.proofs.Common.{◌≡◌, ◌≢◌, ◌+◌, ◌<◌, ◌≤◌, ℕ, suc, Result, Err, List, [], ◌∷◌, ◌++◌, length, drop, refl, sym, ◌∙◌, ap, subst, arith, length-append}
+use Rattle.std.proofs.Common.{◌≡◌, ◌≢◌, ◌<◌, ◌≤◌, ℕ, Result, Err, List, [], ◌∷◌, ◌++◌, length, drop, refl, sym, ◌∙◌, ap, subst, arith}
 use Rattle.std.proofs.lemmas.List.{drop_at, append-nil}
 use Rattle.sp_journal.specs.declared.chain.Chain.{Chain}
-use Rattle.sp_journal.specs.declared.kind.Kind.TheVariants.{Empty, Foreign as IsForeign, Unfinished, Settled}
+use Rattle.sp_journal.specs.declared.kind.Kind.TheVariants.{Foreign as IsForeign, Settled}
 use Rattle.sp_journal.specs.declared.turn.Turn.{Turn}
 use Rattle.sp_journal.specs.declared.turn.Turn.TheVariants.{Closed, Damaged as IsDamaged, Entered}
-use Rattle.sp_journal.specs.declared.types.Recovered.{Recovered}
 use Rattle.sp_journal.specs.Chaining.{Reached, Ended, Stopped, found_in}
 use Rattle.sp_journal.specs.Format.{header_bytes}
-use Rattle.sp_journal.specs.Kinds.{IsKind, empty, foreign, unfinished, settled}
-use Rattle.sp_journal.specs.Recovery.{Base, IsBase, IsHeader, Leads, start, head, nothing, Recovers, Foreign, Damaged, Holds}
-use Rattle.sp_journal.specs.Recovery.{foreign as recovers_foreign, damaged as recovers_damaged, empty as recovers_empty, closed as recovers_closed}
+use Rattle.sp_journal.specs.Kinds.{IsKind, foreign, settled}
+use Rattle.sp_journal.specs.Recovery.{Base, IsHeader, start, head, nothing, Recovers, Foreign, Damaged}
+use Rattle.sp_journal.specs.Recovery.{foreign as recovers_foreign, damaged as recovers_damaged}
 use Rattle.sp_journal.specs.Scanning.{Rests}
-use Rattle.sp_journal.proofs.Crashes.{length-header, leads_none}
+use Rattle.sp_journal.proofs.Crashes.{length-header}
 
 abbrev pub err_of : (U : Type 0) {E : Type 0} → E → Result U E
 err_of U e = Err e

@@ -1,5 +1,5 @@
 -- What one turn of reading leaves, by its answer.
-use Rattle.std.proofs.Common.{◌≡◌, ◌≢◌, ◌+◌, ◌^◌, ◌<◌, ◌≤◌, ℕ, Result, Ok, Err, IfOk, List, ◌∷◌, ◌++◌, length, drop, refl, sym, ◌∙◌, ap, arith, length-drop}
+use Rattle.std.proofs.Common.{◌≡◌, ◌≢◌, ◌+◌, ◌^◌, ◌<◌, ◌≤◌, ℕ, Result, Ok, Err, IfOk, List, ◌∷◌, ◌++◌, length, drop, refl, arith, length-drop}
 use Rattle.sp_disk.specs.declared.disk.DiskError.{DiskError}
 use Rattle.sp_journal.specs.declared.chain.Chain.{Chain}
 use Rattle.sp_journal.specs.declared.turn.Turn.{Turn}

@@ -1,21 +1,19 @@
 -- What the gate behind some entries leads to.
-use Rattle.std.proofs.Common.{◌≡◌, ◌≢◌, ◌⊎◌, inl, inr, ◌+◌, ◌-◌, ◌*◌, ◌^◌, ◌<◌, ◌≤◌, ℕ, suc, add-one, IsTrue, List, [], ◌∷◌, ◌++◌, length, take, drop, get_or, refl, sym, ◌∙◌, ap, subst, arith, append_assoc, length-append, length-drop}
-use Rattle.std.proofs.lemmas.List.{take_at, drop_at, drop_more, append-nil, drop-drop}
+use Rattle.std.proofs.Common.{◌≡◌, ◌≢◌, ◌+◌, ◌*◌, ◌^◌, ◌<◌, ◌≤◌, ℕ, add-one, List, [], ◌∷◌, ◌++◌, length, take, drop, get_or, refl, sym, ◌∙◌, ap, subst, arith, append_assoc, length-append, length-drop}
+use Rattle.std.proofs.lemmas.List.{take_at, drop_at, drop_more, drop-drop}
 use Rattle.std.specs.List.{flat_map}
 use Rattle.byteorder.specs.Endian.{big_number}
 use Rattle.byteorder.specs.Numbers.{big_number-reads_back}
-use Rattle.sp_disk.specs.Moments.{LeavesOnly}
 use Rattle.sp_rect.specs.declared.record.Record.{Record}
-use Rattle.sp_plain.specs.Taking.{most_records}
 use Rattle.sp_journal.specs.declared.chain.Chain.{Chain}
 use Rattle.sp_journal.specs.declared.types.Recovered.{Recovered}
 use Rattle.sp_journal.specs.Chaining.{Reached, Ended, Broken, found_in}
-use Rattle.sp_journal.specs.Format.{u32_bytes, header_bytes, body_bytes, entry_bytes, batch_bytes, put_bytes, checkpoint_bytes, IsPut, IsCheckpoint}
+use Rattle.sp_journal.specs.Format.{u32_bytes, header_bytes, body_bytes, entry_bytes, put_bytes, checkpoint_bytes, IsPut}
 use Rattle.sp_journal.specs.Looking.{OnlyReads}
-use Rattle.sp_journal.specs.Recovery.{Base, IsBase, Enters, batch, checkpoint, more, HasEntry, head}
+use Rattle.sp_journal.specs.Recovery.{Base, Enters, batch, checkpoint, more, head}
 use Rattle.sp_journal.proofs.Bounds.{length-put}
 use Rattle.sp_journal.proofs.Chunks.{length-u32}
-use Rattle.sp_journal.proofs.Crashes.{length-head, length-header}
+use Rattle.sp_journal.proofs.Crashes.{length-head}
 use Rattle.sp_journal.proofs.Making.{chained}
 
 -- calls that only read, one after the other

@@ -1,5 +1,5 @@
 -- How far the reading of a file's entries has come.
-use Rattle.std.specs.Prelude.{◌≡◌, ◌≢◌, ◌<◌, ◌+◌, ℕ, List, ◌∷◌, ◌++◌, length, drop}
+use Rattle.std.specs.Prelude.{◌≡◌, ◌≢◌, ℕ, List, ◌∷◌, ◌++◌, length, drop}
 use Rattle.sp_journal.specs.declared.chain.Chain.{Chain}
 use Rattle.sp_journal.specs.declared.turn.Turn.{Turn}
 use Rattle.sp_journal.specs.declared.turn.Turn.TheVariants.{Closed, Damaged, Entered}

@@ -1,4 +1,4 @@
-use Rattle.std.proofs.Common.{◌≡◌, ℕ, List, true, sym, subst, ap, ◌∙◌}
+use Rattle.std.proofs.Common.{◌≡◌, true, sym, subst, ◌∙◌}
 use Rattle.sp_journal.specs.Kinds.{IsKind}
 use Rattle.sp_journal.specs.Opening.{IsReady}
 use Rattle.sp_journal.specs.Scanning.{Held}

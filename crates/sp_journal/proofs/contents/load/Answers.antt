@@ -1,6 +1,6 @@
-use Rattle.std.proofs.Common.{◌≡◌, [], Some, ◌∙◌, sym, ap}
+use Rattle.std.proofs.Common.{[], ◌∙◌, sym, ap}
 use Rattle.sp_plain.specs.Taking.{taken}
-use Rattle.sp_journal.proofs.Payloads.{enters_checkpoint, was_taken, loaded_is}
+use Rattle.sp_journal.proofs.Payloads.{was_taken, loaded_is}
 use Rattle.sp_journal.proofs.contents.load.Goals as goal
 
 pub returns-clause-loaded : goal.returns-clause-loaded

@@ -1,5 +1,4 @@
-use Rattle.std.proofs.Common.{◌≡◌, ◌≤◌, ◌+◌, ℕ, List, length, Some, ◌∙◌, sym, ap, subst, arith}
-use Rattle.sp_journal.specs.declared.types.Recovered.{Recovered}
+use Rattle.std.proofs.Common.{◌+◌, ℕ, length, sym, ap, subst, arith}
 use Rattle.sp_journal.specs.Recovery.{Enters, all_changes}
 use Rattle.sp_journal.proofs.Payloads.{enters_batch, few_commits, was_taken}
 use Rattle.sp_journal.proofs.contents.make_batch.Goals as goal

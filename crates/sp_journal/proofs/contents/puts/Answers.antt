@@ -1,4 +1,4 @@
-use Rattle.std.proofs.Common.{◌≡◌, [], Some, map, ◌∙◌, ap, sym, arith, length}
+use Rattle.std.proofs.Common.{◌≡◌, [], map, ◌∙◌, ap, sym, arith, length}
 use Rattle.std.proofs.lemmas.Iterator.Adapters.{YieldsList-from_vec}
 use Rattle.std.proofs.lemmas.Iterator.Consumers.{YieldsList-end}
 use Rattle.std.proofs.lemmas.List.{map-id}

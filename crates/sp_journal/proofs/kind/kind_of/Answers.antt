@@ -1,4 +1,4 @@
-use Rattle.std.proofs.Common.{◌≡◌, ◌++◌, ◌∷◌, List, ℕ, drop, get_or, ◌∙◌, ap, arith, subst}
+use Rattle.std.proofs.Common.{◌++◌, ◌∷◌, List, ℕ, drop, get_or, ◌∙◌, ap, arith}
 use Rattle.sp_journal.specs.Kinds.{empty}
 use Rattle.sp_journal.proofs.Heads.{behind_front, is_foreign}
 use Rattle.sp_journal.proofs.kind.kind_of.Goals as goal

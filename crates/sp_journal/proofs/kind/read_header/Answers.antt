@@ -1,8 +1,6 @@
-use Rattle.std.proofs.Common.{◌≡◌, sym, ◌∙◌, ap, subst}
+use Rattle.std.proofs.Common.{sym, ◌∙◌}
 use Rattle.std.proofs.lemmas.List.{take_rest}
 use Rattle.std.specs.Cmp.Lexicographic.{other_text}
-use Rattle.sp_journal.specs.Format.{header_bytes}
-use Rattle.sp_journal.specs.Recovery.{IsHeader}
 use Rattle.sp_journal.proofs.Heads.{read_numbers, same_header, header_here}
 use Rattle.sp_journal.proofs.kind.read_header.Goals as goal
 use Rattle.sp_journal.proofs.kind.read_header.Goals.{else-is_header-via-then-is_header+else-eq, else-is_header-via-else-is_header}

@@ -1,4 +1,4 @@
-use Rattle.std.proofs.Common.{◌≡◌, ap, subst, sym, ◌∙◌, arith}
+use Rattle.std.proofs.Common.{◌≡◌, subst, arith}
 use Rattle.sp_journal.specs.Recovery.{Recovers, Damaged}
 use Rattle.sp_journal.proofs.Scans.{bare, reached_first, damaged_by}
 use Rattle.sp_journal.proofs.scan.entries.Goals as goal

@@ -1,4 +1,4 @@
-use Rattle.std.proofs.Common.{◌≡◌, ap, subst, sym, ◌∙◌, arith}
+use Rattle.std.proofs.Common.{sym, ◌∙◌}
 use Rattle.std.proofs.lemmas.Result.{err_from_is_err_and}
 use Rattle.sp_journal.proofs.Scans.{same_err, settled_is, behind_header, rests_here}
 use Rattle.sp_journal.proofs.scan.settled.Goals as goal
