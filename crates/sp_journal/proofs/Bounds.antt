@@ -5,9 +5,10 @@ use Rattle.std.proofs.lemmas.List.{take_more, take_all}
 use Rattle.sp_rect.specs.Value.{is_value}
 use Rattle.std.specs.Int.{w32, cast_unsigned}
 use Rattle.sp_rect.specs.Plane.{Rectangle}
+use Rattle.sp_rect.specs.declared.record.Record.{Record}
 use Rattle.sp_plain.specs.declared.change.Change.{Change}
 use Rattle.sp_plain.specs.declared.change.Change.TheVariants.{Put, Drop, Set}
-use Rattle.sp_journal.specs.Format.{u32_bytes, u64_bytes, coordinate_bytes, rect_bytes, value_bytes, put_bytes, drop_bytes, set_bytes, change_bytes, commit_bytes, batch_bytes, IsChange, AllChanges, AllCommits, IsCommit}
+use Rattle.sp_journal.specs.Format.{u32_bytes, u64_bytes, coordinate_bytes, rect_bytes, value_bytes, put_bytes, drop_bytes, set_bytes, change_bytes, commit_bytes, batch_bytes, IsChange, IsPut, AllChanges, AllCommits, IsCommit}
 use Rattle.sp_journal.proofs.Framing.{flat_push}
 use Rattle.sp_journal.proofs.Chunks.{value_short, length-u32, length-u64}
 
@@ -35,9 +36,13 @@ length-value : (v : List ℕ) → IsTrue (is_value v) → length (value_bytes v)
 unfolding value_bytes
 length-value v is = omega (arith, value_short v is)
 
+pub length-put : (r : Record) → IsPut r → length (put_bytes r) ≤ 90
+unfolding put_bytes
+length-put r is = omega (arith, length-append (u64_bytes r.id ++ rect_bytes r.rect) (value_bytes r.value), length-append (u64_bytes r.id) (rect_bytes r.rect), length-u64 r.id, length-rect r.rect, length-value r.value is.value)
+
 length-change : (change : Change) → IsChange change → length (change_bytes change) ≤ 90
-unfolding put_bytes drop_bytes set_bytes
-length-change (Put r) is = omega (arith, length-append (u64_bytes r.id ++ rect_bytes r.rect) (value_bytes r.value), length-append (u64_bytes r.id) (rect_bytes r.rect), length-u64 r.id, length-rect r.rect, length-value r.value is.value)
+unfolding drop_bytes set_bytes
+length-change (Put r) is = length-put r is
 length-change (Drop id) is = omega (arith, length-u64 id)
 length-change (Set id value) is = omega (arith, length-append (u64_bytes id) (value_bytes value), length-u64 id, length-value value is.1)
 

@@ -8,7 +8,7 @@ use Rattle.sp_rect.specs.declared.record.Record.{Record}
 use Rattle.sp_plain.specs.declared.change.Change.{Change}
 use Rattle.sp_plain.specs.Taking.{taken}
 use Rattle.sp_journal.specs.Format.{u32_bytes, u64_bytes, header_bytes, batch_bytes, entry_bytes, framed, IsBatch}
-use Rattle.sp_journal.specs.Recovery.{Base, IsBase, head, nothing, all_changes, with_batch, Leads, start, batch, checkpoint, Recovers, empty, closed, Holds}
+use Rattle.sp_journal.specs.Recovery.{Base, IsBase, head, nothing, all_changes, with_batch, Leads, start, more, batch, Recovers, empty, closed, Holds}
 use Rattle.sp_journal.specs.Standing.{Ledger, applied, with_entry, IsBeforeOrAfter}
 use Rattle.sp_journal.proofs.Chunks.{length-u32, length-u64}
 use Rattle.sp_journal.specs.declared.types.Recovered.{Recovered}
@@ -18,12 +18,11 @@ unfolding header_bytes
 length-header version generation = omega (arith, length-append ((83 ∷ 80 ∷ 74 ∷ 76 ∷ []) ++ u32_bytes version) (u64_bytes generation), length-append (83 ∷ 80 ∷ 74 ∷ 76 ∷ []) (u32_bytes version), length-u32 version, length-u64 generation)
 
 -- no entries lead to nothing
-leads_none : (generation : ℕ) (front : List ℕ) (found : Recovered) → Leads generation front found → length front ≡ 0 → found ≡ nothing
+pub leads_none : (generation : ℕ) (front : List ℕ) (found : Recovered) → Leads generation front found → length front ≡ 0 → found ≡ nothing
 leads_none generation front found start none = refl
-leads_none generation front found (batch before was commits records leads kind is applies) none = absurd (omega (arith, length-append before (entry_bytes (batch_bytes commits))))
-leads_none generation front found (checkpoint records kind is) none = absurd (omega arith)
+leads_none generation front found (more before payload was after leads enters) none = absurd (omega (arith, length-append before (entry_bytes payload)))
 
-length-head : (base : Base) → length (head base) ≡ 16 + length base.front
+pub length-head : (base : Base) → length (head base) ≡ 16 + length base.front
 length-head base = omega (arith, length-append (header_bytes base.version base.generation) base.front, length-header base.version base.generation)
 
 -- a closed gate ends the entries, whatever stands behind it
@@ -47,7 +46,7 @@ longer base commits records is kind whole applies =
     let same = applied_is (all_changes commits) base.found.records records applies in
     record {
       header = is.header;
-      leads = subst (λ r. Leads base.generation (base.front ++ entry_bytes (batch_bytes commits)) (with_batch r (length commits) base.found)) same (batch base.front base.found commits records is.leads kind whole applies);
+      leads = subst (λ r. Leads base.generation (base.front ++ entry_bytes (batch_bytes commits)) (with_batch r (length commits) base.found)) same (more base.front (batch_bytes commits) base.found (with_batch records (length commits) base.found) is.leads (batch commits records kind whole applies));
     }
 
 -- a whole entry behind a gate that is open

@@ -1,10 +1,18 @@
 mod Bounds
 mod Chunks
 mod Corner
-mod Crashes
+pub mod Crashes
 mod Framing
-mod Making
+mod Heads
+pub mod Making
+pub mod Opened
+pub mod Outcomes
 mod Pages
-mod Passing
+pub mod Passing
+mod Payloads
+pub mod Prefixes
 mod Readers
+pub mod Scans
 mod Turning
+mod Turns
+pub mod Walking

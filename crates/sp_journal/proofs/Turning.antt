@@ -16,7 +16,7 @@ use Rattle.sp_journal.proofs.Bounds.{commits_push}
 use Rattle.sp_journal.proofs.Chunks.{length-u32}
 use Rattle.sp_journal.proofs.Crashes.{applied_is, closed_gate, any_gate, longer, opened, torn_behind, torn_gate, put_behind, put_gate}
 
-all_append : (xs ys : List (List Change)) → all_changes (xs ++ ys) ≡ all_changes xs ++ all_changes ys
+pub all_append : (xs ys : List (List Change)) → all_changes (xs ++ ys) ≡ all_changes xs ++ all_changes ys
 all_append [] ys = refl
 all_append (x ∷ xs) ys = ap (λ (l : List Change). x ++ l) (all_append xs ys) ∙ sym (append_assoc x (all_changes xs) (all_changes ys))
 

@@ -1,4 +1,10 @@
+pub mod Chaining
+pub mod Faulting
 pub mod Format
+pub mod Kinds
+pub mod Looking
+pub mod Opening
 pub mod Reading
 pub mod Recovery
+pub mod Scanning
 pub mod Standing

@@ -23,22 +23,27 @@ with_batch records commits found = record { records = records; batches = suc fou
 abbrev pub IsHeader : ℕ → ℕ → Type 0
 IsHeader version generation = ((version ≡ 1) × (generation ≡ 0)) ⊎ ((version ≡ 2) × (1 ≤ generation) × (generation < 2 ^ 63))
 
--- Whole entries, one after the other from the first gate on, and what they lead to. In a file of generation
--- 2 or more the first of them is a checkpoint; every other entry is a batch that can be applied.
+-- An entry of this payload may stand behind these entries and can be applied, and leads to this. The first
+-- entry of a file of generation 2 or more is a checkpoint, and every other entry is a batch.
+pub data Enters (generation : ℕ) (front : List ℕ) (found : Recovered) : List ℕ → Recovered → Type 0 where
+  batch : (commits : List (List Change)) (records : List Record) → (2 ≤ generation → 1 ≤ length front) → IsBatch commits → taken (all_changes commits) found.records ≡ Some records
+      → Enters generation front found (batch_bytes commits) (with_batch records (length commits) found)
+  checkpoint : (records : List Record) → 2 ≤ generation → front ≡ [] → IsCheckpoint records → Enters generation front found (checkpoint_bytes records) (record { records = records; batches = 0; commits = 0 })
+
+-- Whole entries, one after the other from the first gate on, and what they lead to.
 pub data Leads (generation : ℕ) : List ℕ → Recovered → Type 0 where
   start : Leads generation [] nothing
-  batch : (front : List ℕ) (found : Recovered) (commits : List (List Change)) (records : List Record) → Leads generation front found
-      → (2 ≤ generation → 1 ≤ length front) → IsBatch commits → taken (all_changes commits) found.records ≡ Some records
-      → Leads generation (front ++ entry_bytes (batch_bytes commits)) (with_batch records (length commits) found)
-  checkpoint : (records : List Record) → 2 ≤ generation → IsCheckpoint records → Leads generation (entry_bytes (checkpoint_bytes records)) (record { records = records; batches = 0; commits = 0 })
+  more : (front payload : List ℕ) (found after : Recovered) → Leads generation front found → Enters generation front found payload after → Leads generation (front ++ entry_bytes payload) after
 
 -- Behind an open gate after these entries stands a whole entry, with its next gate, that may stand there
 -- and can be applied.
-pub data HasEntry (generation : ℕ) (front : List ℕ) (found : Recovered) : List ℕ → Type 0 where
-  batch : (commits : List (List Change)) (records : List Record) (next : List ℕ) → (2 ≤ generation → 1 ≤ length front) → IsBatch commits
-      → taken (all_changes commits) found.records ≡ Some records → 1 ≤ length next → HasEntry generation front found (body_bytes (batch_bytes commits) ++ next)
-  checkpoint : (records : List Record) (next : List ℕ) → 2 ≤ generation → front ≡ [] → IsCheckpoint records → 1 ≤ length next
-      → HasEntry generation front found (body_bytes (checkpoint_bytes records) ++ next)
+pub record HasEntry (generation : ℕ) (front : List ℕ) (found : Recovered) (rest : List ℕ) : Type 0 where
+  pub payload : List ℕ
+  pub next : List ℕ
+  pub after : Recovered
+  pub enters : Enters generation front found payload after
+  pub gate : 1 ≤ length next
+  pub is : rest ≡ body_bytes payload ++ next
 
 -- A header and whole entries, and what these lead to.
 pub record Base : Type 0 where

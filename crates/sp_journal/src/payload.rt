@@ -14,6 +14,7 @@ use std::alloc::{AllocError, Global};
 pub fn read_batch(alloc: Global, payload: &[u8]) -> Result<Commits, Unread>
     requires { length payload.now < 2 ^ 32 }
     ensures whole { IfOk result (λ q. IsBatch q × (payload.now ≡ batch_bytes q)) }
+    ensures only { (q : List (List Change)) → IsBatch q → payload.now ≡ batch_bytes q → IfOk result (λ read. read ≡ q) }
     ensures refused { IsErrOf result Unread.Bad → (q : List (List Change)) → IsBatch q → payload.now ≢ batch_bytes q }
 {
     let commits = decode::batch(alloc, payload)?;
@@ -38,6 +39,7 @@ fn is_written(alloc: Global, commits: &Commits, payload: &[u8]) -> Result<bool, 
 /// the payload warrants.
 pub fn read_checkpoint(alloc: Global, payload: &[u8]) -> Result<Records, Unread>
     ensures whole { IfOk result (λ rs. IsCheckpoint rs × (payload.now ≡ checkpoint_bytes rs)) }
+    ensures only { (rs : List RecordOf) → IsCheckpoint rs → payload.now ≡ checkpoint_bytes rs → IfOk result (λ read. read ≡ rs) }
     ensures refused { IsErrOf result Unread.Bad → (rs : List RecordOf) → IsCheckpoint rs → payload.now ≢ checkpoint_bytes rs }
 {
     let records = decode::checkpoint(alloc, payload)?;

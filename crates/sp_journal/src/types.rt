@@ -1,5 +1,7 @@
 // What is recovered, and what calls answer.
+use sp_disk::DiskError;
 use sp_rect::Records;
+use std::alloc::AllocError;
 use thiserror::Error;
 
 /// What a journal holds: the records after all its entries, and how many batches and commits it has
@@ -20,6 +22,9 @@ pub enum JournalError {
     /// The gate at this offset is open, and no whole entry that can be applied stands behind it.
     #[error("damaged at {0}")]
     Damaged(u64),
+    /// The generation is the last that there is, so the journal can't be compacted any more.
+    #[error("worn")]
+    Worn,
     /// The disk failed.
     #[error("the disk failed")]
     Fault,
@@ -40,4 +45,29 @@ pub enum Call {
     Fault(u64),
     /// The disk wants memory. Nothing has changed.
     Memory,
+}
+
+impl From<AllocError> for JournalError {
+    ghost use Rattle.std.specs.Prelude.{◌≡◌};
+    ghost use Rattle.sp_journal.specs.declared.types.JournalError.TheVariants.{Memory};
+
+    ghost from_gives = { λ _ e. e ≡ Memory };
+
+    fn from(_: AllocError) -> Self {
+        JournalError::Memory
+    }
+}
+
+impl From<DiskError> for JournalError {
+    ghost use Rattle.std.specs.Prelude.{◌≡◌};
+    ghost use Rattle.sp_journal.specs.Faulting.{of_disk};
+
+    ghost from_gives = { λ e gave. gave ≡ of_disk e };
+
+    fn from(error: DiskError) -> Self {
+        match error {
+            DiskError::Fault => JournalError::Fault,
+            DiskError::Memory => JournalError::Memory,
+        }
+    }
 }

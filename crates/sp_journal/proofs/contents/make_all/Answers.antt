@@ -1,0 +1,13 @@
+use Rattle.std.proofs.Common.{arith}
+use Rattle.sp_journal.proofs.Payloads.{commit_made, commits_refused, was_taken, was_refused}
+use Rattle.sp_journal.proofs.contents.make_all.Goals as goal
+
+pub returns-then-not-branch : goal.returns-then-not-branch
+returns-then-not-branch c =
+    commits_refused c.args.commits.now c.as_slice-commit-items.result.now c.loop-commit.commit-index c.commit-item.result c.args.store.now c.loop-commit.store c.as_slice-commit-items.ensures (omega arith) c.commit-item.is c.loop-commit.invariant
+    (was_refused c.commit-item.result c.loop-commit.store c.take.new.self c.in_ok-take.field-0 c.if-not-branch.true c.in_ok-take.ensures.made)
+
+pub loop-commit-preserved : goal.loop-commit-preserved
+loop-commit-preserved c =
+    commit_made c.as_slice-commit-items.result.now c.loop-commit.commit-index c.commit-item.result c.args.store.now c.loop-commit.store c.take.new.self (omega arith) c.commit-item.is c.loop-commit.invariant
+    (was_taken c.commit-item.result c.loop-commit.store c.take.new.self c.in_ok-take.field-0 c.if-not-branch.false c.in_ok-take.ensures.made)
