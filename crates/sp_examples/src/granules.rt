@@ -1,8 +1,8 @@
 // The granules of two trees: of one whose leaves stand apart, and of one with a leaf as wide as its sibling
 // is high.
-use crate::trees::{rect_of, tree_of};
-use sp_granule::{granule_at, granules_meeting, space};
-use sp_node::Tree;
+use crate::trees::{plan_of, rect_of, tree_of};
+use sp_granule::{granule_at, granules_meeting, granules_meeting_in, space, space_in};
+use sp_node::{Overlay, Tree};
 use sp_rect::{Point, WHOLE};
 use std::alloc::Global;
 use std::test::Fail;
@@ -61,5 +61,20 @@ fn leaves_that_cross(rt: HostRuntime) -> Result<(), Fail> {
     assert!(rt; has_space(&tree, 2, (50, 10, 51, 1000))?);
     assert!(rt; meets_only(alloc, &tree, (50, 12, 51, 13), &[2])?);
     assert!(rt; meets_only(alloc, &tree, (50, 9, 51, 10), &[1, 2])?);
+    Ok(())
+}
+
+// An entry between the leaves makes the first one reach over what was left to the root.
+#[test]
+fn a_tree_that_is_planned(rt: HostRuntime) -> Result<(), Fail> {
+    let alloc = rt.alloc();
+    let tree = tree_of(alloc, &APART)?;
+    assert!(rt; meets_only(alloc, &tree, (20, 20, 30, 30), &[3])?);
+    let plan = plan_of(alloc, &tree, 6, 6, rect_of((50, 50, 60, 60))?)?;
+    let planned = Overlay::planned(&tree, &plan);
+    let found = granules_meeting_in(alloc, &planned, &rect_of((20, 20, 30, 30))?)?;
+    assert_eq!(rt; found.as_slice(), [1].as_slice());
+    assert_eq!(rt; space_in(&planned, 1), Some(rect_of((0, 0, 60, 60))?));
+    assert!(rt; has_space(&tree, 1, (0, 0, 10, 10))?);
     Ok(())
 }

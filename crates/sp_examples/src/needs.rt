@@ -29,7 +29,7 @@ const CROSSED: [Corners; 5] = [
 // The short needs of inserting a rectangle with a new number.
 fn needs_of(alloc: Global, tree: &Tree, number: u64, corners: Corners) -> Result<Needs, Fail> {
     let rect = rect_of(corners)?;
-    let plan = plan_of(alloc, tree, number, rect)?;
+    let plan = plan_of(alloc, tree, number, number, rect)?;
     let chosen = choose_leaf(tree, &rect);
     Ok(short_needs(alloc, tree, &plan, Some(chosen))?)
 }

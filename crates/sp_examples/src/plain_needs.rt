@@ -181,7 +181,7 @@ fn random_rect(state: u64) -> Result<(Rect, u64), Fail> {
 fn agrees(alloc: Global, tree: &mut Tree, number: u64, rect: Rect) -> Result<bool, Fail> {
     let before = all_seen(alloc, tree)?;
     let chosen = choose_leaf(tree, &rect);
-    let plan = plan_of(alloc, tree, number, rect)?;
+    let plan = plan_of(alloc, tree, number, number, rect)?;
     let needs = short_needs(alloc, tree, &plan, Some(chosen))?;
     adopt(tree, plan)?;
     let after = all_seen(alloc, tree)?;

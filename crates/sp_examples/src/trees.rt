@@ -25,13 +25,24 @@ pub fn tree_of(alloc: Global, rects: &[(i64, i64, i64, i64)]) -> Result<Tree, Fa
     let mut number: u64 = 0;
     for corners in rects {
         number = number.saturating_add(1);
-        insert(alloc, &mut tree, number, rect_of(*corners)?)?;
+        insert(alloc, &mut tree, number, number, rect_of(*corners)?)?;
     }
     Ok(tree)
 }
 
-/// The insertion of a rectangle with a new number.
-pub fn plan_of(alloc: Global, tree: &Tree, number: u64, rect: Rect) -> Result<Plan, Fail>
+/// The tree of records with these ids, inserted in order with the numbers from 1, all in one place.
+pub fn tree_of_ids(alloc: Global, ids: &[u64]) -> Result<Tree, Fail> {
+    let mut tree = Tree::new(alloc, Shape { max: 4, min: 2 })?;
+    let mut number: u64 = 0;
+    for id in ids {
+        number = number.saturating_add(1);
+        insert(alloc, &mut tree, number, *id, rect_of((0, 0, 9, 9))?)?;
+    }
+    Ok(tree)
+}
+
+/// The plan to insert an entry of this number and id.
+pub fn plan_of(alloc: Global, tree: &Tree, number: u64, id: u64, rect: Rect) -> Result<Plan, Fail>
     ensures { IfOk result (λ plan. IsMadeOf tree.now.table plan) }
 {
     if tree.leaf_of(number).is_some() || tree.next() >= MOST_NODES {
@@ -42,7 +53,7 @@ pub fn plan_of(alloc: Global, tree: &Tree, number: u64, rect: Rect) -> Result<Pl
     };
     let entry = Entry {
         number,
-        id: number,
+        id,
         rect,
         value,
         marks: Marks {
@@ -57,8 +68,8 @@ pub fn plan_of(alloc: Global, tree: &Tree, number: u64, rect: Rect) -> Result<Pl
     }
 }
 
-fn insert(alloc: Global, tree: &mut Tree, number: u64, rect: Rect) -> Result<(), Fail> {
-    let plan = plan_of(alloc, tree, number, rect)?;
+fn insert(alloc: Global, tree: &mut Tree, number: u64, id: u64, rect: Rect) -> Result<(), Fail> {
+    let plan = plan_of(alloc, tree, number, id, rect)?;
     adopt(tree, plan)
 }
 
