@@ -7,3 +7,4 @@ mod ByNumber
 mod Parts
 mod Alike
 mod Entering
+mod OneEach

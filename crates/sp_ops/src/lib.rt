@@ -4,6 +4,7 @@
 
 mod acting;
 mod areas;
+mod distinct;
 mod effects;
 mod marking;
 mod needing;
@@ -15,6 +16,7 @@ mod staying;
 mod wants;
 
 pub use acting::effect;
+pub use distinct::sees_distinct_ids;
 pub use effects::{Effect, Marked};
 pub use needing::commit_needs;
 pub use object::name_of;

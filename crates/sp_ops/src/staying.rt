@@ -85,8 +85,8 @@ fn search_wants(alloc: Global, tree: &Tree, rect: &Rect) -> Result<Vec<Want>, Al
     ensures { IfOk result (λ wants. (txn : ℕ) → AreWants (StayWant (granules tree.now.table) (entries_of tree.now.table) txn (AFind rect.now)) wants.items) }
 {
     let mut wants = Vec::new(alloc);
-    let numbers = granules_meeting(alloc, tree, rect)?;
-    push_granules(&mut wants, numbers.as_slice(), Mode::S)?;
+    let met = granules_meeting(alloc, tree, rect)?;
+    push_granules(&mut wants, met.as_slice(), Mode::S)?;
     Ok(wants)
 }
 

@@ -11,7 +11,7 @@ use Rattle.sp_ops.proofs.staying.search_wants.Goals as goal
 
 pub returns : goal.returns
 returns c = λ txn.
-    let numbers = c.in_ok-numbers.numbers in
+    let numbers = c.in_ok-met.met in
     let is : c.push_granules.new.wants.items ≡ map (on_granule S) numbers =
     c.in_ok-push_granules.ensures ∙ ap (λ (ws : List Want). ws ++ map (on_granule S) c.as_slice.result.now) c.new-wants.ensures.items ∙ ap (map (on_granule S)) c.as_slice.ensures in
-    subst (AreWants (StayWant (granules c.args.tree.now.table) (entries_of c.args.tree.now.table) txn (Find c.args.rect.now))) (sym is) (search_wants c.args.tree.now.table txn c.args.rect.now numbers c.in_ok-numbers.ensures.exact)
+    subst (AreWants (StayWant (granules c.args.tree.now.table) (entries_of c.args.tree.now.table) txn (Find c.args.rect.now))) (sym is) (search_wants c.args.tree.now.table txn c.args.rect.now numbers c.in_ok-met.ensures.exact)
