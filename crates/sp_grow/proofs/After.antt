@@ -29,14 +29,15 @@ use Rattle.sp_grow.specs.Below.{numbers, AreChanges, IsNow}
 use Rattle.sp_grow.specs.declared.left.Draft.{Draft}
 use Rattle.sp_grow.proofs.Numbers.{numbers_places, among_from_all}
 use Rattle.sp_grow.proofs.Sums.{sum_map}
-use Rattle.sp_grow.proofs.Counting.{new_numbers, new_within, new_there, new_distinct}
+use Rattle.sp_grow.specs.Reached.{new_numbers}
+use Rattle.sp_grow.proofs.Counting.{new_within, new_there, new_distinct}
 use Rattle.sp_grow.proofs.Parts.{off_parts, look_unlisted}
 
 -- the numbers of a table
-abbrev keys : List (ℕ × Node) → List ℕ
+abbrev pub keys : List (ℕ × Node) → List ℕ
 keys nodes = map (λ n. n.0) nodes
 
-rising_parts : (nodes : List (ℕ × Node)) (ps : List Part) → IsAscending nodes → IsAscending (with_parts nodes ps)
+pub rising_parts : (nodes : List (ℕ × Node)) (ps : List Part) → IsAscending nodes → IsAscending (with_parts nodes ps)
 rising_parts nodes [] a = a
 rising_parts nodes (Now k n ∷ ps) a = ascending_put k n (with_parts nodes ps) (rising_parts nodes ps a)
 rising_parts nodes (Gone k ∷ ps) a = ascending_take k (with_parts nodes ps) (rising_parts nodes ps a)
@@ -44,11 +45,11 @@ rising_parts nodes (Gone k ∷ ps) a = ascending_take k (with_parts nodes ps) (r
 less_apart : (j k : ℕ) → j < k → nat_eq j k ≡ false
 less_apart j k lt = grind (arith, nat_tests)
 
-keys_distinct : (nodes : List (ℕ × Node)) → IsAscending nodes → IsDistinct nat_eq (keys nodes)
+pub keys_distinct : (nodes : List (ℕ × Node)) → IsAscending nodes → IsDistinct nat_eq (keys nodes)
 keys_distinct [] a = IsDistinct-from_apart nat_eq [] (λ i j d lt len. absurd (omega arith))
 keys_distinct (n ∷ ns) a = IsDistinct-cons nat_eq n.0 (keys ns) (all_map (λ k. nat_eq n.0 k ≡ false) (λ (m : ℕ × Node). m.0) ns (all_imply (λ m h. less_apart n.0 m.0 h) ns a.0)) (keys_distinct ns a.1)
 
-keys_look : (nodes : List (ℕ × Node)) (k : ℕ) → is_among (keys nodes) k ≡ is_some (look nodes k)
+pub keys_look : (nodes : List (ℕ × Node)) (k : ℕ) → is_among (keys nodes) k ≡ is_some (look nodes k)
 keys_look [] k = refl
 keys_look (n ∷ ns) k = by_test (nat_eq k n.0) (keys_look ns k)
   where
@@ -67,7 +68,7 @@ still_some (Now j n ∷ ps) k o h s = by_test (nat_eq k j) (still_some ps k o h.
 still_some (Gone j ∷ ps) k o h s = absurd h.0
 
 -- entries with distinct numbers
-distinct_same : (es : List Entry) (e f : Entry) → IsDistinct nat_eq (map (λ x. x.number) es) → Among e es → Among f es → e.number ≡ f.number → e ≡ f
+pub distinct_same : (es : List Entry) (e f : Entry) → IsDistinct nat_eq (map (λ x. x.number) es) → Among e es → Among f es → e.number ≡ f.number → e ≡ f
 distinct_same [] e f d a b s = absurd a
 distinct_same (x ∷ es) e f d (inl a) (inl b) s = a ∙ sym b
 distinct_same (x ∷ es) e f d (inl a) (inr b) s = absurd (clash x f es (IsDistinct-head nat_eq x.number (map (λ y. y.number) es) d) b (ap (λ (y : Entry). y.number) (sym a) ∙ s))
@@ -113,10 +114,10 @@ module _ (t : Table) (v : IsValid t) (rising : IsAscending t.nodes) where
   pub own_low : AllByRecursion (λ n. n < t.next) own
   own_low = subst (AllByRecursion (λ n. n < t.next)) own_places v.below_next
 
-  own_distinct : IsDistinct nat_eq own
+  pub own_distinct : IsDistinct nat_eq own
   own_distinct = subst (IsDistinct nat_eq) own_places v.distinct
 
-  own_look : (k : ℕ) → is_some (look t.nodes k) ≡ is_among own k
+  pub own_look : (k : ℕ) → is_some (look t.nodes k) ≡ is_among own k
   own_look k = sym (keys_look t.nodes k) ∙ list_any-IsPermutation (nat_eq k) (keys t.nodes) (numbers_at t (level_of t)) v.whole_table ∙ ap (λ (ns : List ℕ). is_among ns k) own_places
 
   module _ (draft : Draft) (c : AreChanges t own draft) (count : ℕ) (next_is : draft.next ≡ t.next + count) where

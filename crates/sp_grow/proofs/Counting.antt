@@ -13,22 +13,18 @@ use Rattle.std.proofs.lemmas.List.Sums.{sum_by-cons, sum_by-append}
 use Rattle.sp_rect.specs.Plane.{Rectangle}
 use Rattle.sp_node.specs.declared.node.Entry.{Entry}
 use Rattle.sp_node.specs.declared.node.Shape.{Shape}
-use Rattle.sp_node.specs.Nested.{Body, Branch, rects, rect_of, entries}
+use Rattle.sp_node.specs.Nested.{Member, Body, Branch, rects, rect_of, entries}
 use Rattle.sp_node.specs.Table.{IsShape}
 use Rattle.sp_node.proofs.Lists.{all_append}
 use Rattle.sp_node.proofs.Frame.{all_from_flat_map, all_flat_map}
 use Rattle.sp_split.specs.Split.{Splits, is_among}
 use Rattle.sp_split.proofs.Members.{self_equal, equal_from, or_left, or_true}
 use Rattle.sp_grow.specs.Members.{pick}
-use Rattle.sp_grow.specs.Insertion.{Outcome, one, two, with_outcome, IsNode, Settles, Grows}
-use Rattle.sp_grow.specs.Below.{numbers}
+use Rattle.sp_grow.specs.Insertion.{Outcome, one, two, with_outcome, IsNode, Settles, Grows, here, below}
+use Rattle.sp_grow.specs.Below.{numbers, numbers_in}
+use Rattle.sp_grow.specs.Reached.{new_numbers}
 use Rattle.sp_grow.proofs.Numbers.{numbers_left, all_front, all_back}
 use Rattle.sp_grow.proofs.Sums.{sum_parts, sum_flat_map}
-
--- the next c numbers
-abbrev pub new_numbers : ℕ → ℕ → List ℕ
-new_numbers next zero = []
-new_numbers next (suc c) = new_numbers next c ++ (next + c) ∷ []
 
 pub new_within : (next n k : ℕ) → is_among (new_numbers next n) k ≡ true → (next ≤ k) × (k < next + n)
 new_within next zero k h = cc
@@ -143,25 +139,47 @@ module _ (shape : Shape) (v : IsShape shape) where
         ap f y,
       )
 
-  pub grows_numbers : (level number next : ℕ) (body : Body level) (e : Entry) (outcome : Outcome (Body level)) (next' : ℕ) → Grows shape level number next body e outcome next' → Counted next next' (numbers level number body) (numbers_left level outcome)
-  grows_numbers zero number next es e outcome next' g = settles_numbers zero number next (es ++ e ∷ []) outcome next' g
-  grows_numbers (suc level) number next branches e outcome next' g =
-      let below = grows_numbers level g.1.number next g.1.body e g.3 g.4 g.7 in
-      let here = settles_numbers (suc level) number g.4 (with_outcome g.0 g.3 g.2) outcome next' g.8 in
+  -- of a list with one more member
+  more_numbers : (f : ℕ → ℕ) (k : ℕ) (x : Member k) (number : ℕ) (body : Body k) → sum_by f (numbers k number (body ++ x ∷ [])) ≡ sum_by f (numbers k number body ++ numbers_in k x)
+  more_numbers f zero x number body = refl
+  more_numbers f (suc k) x number body =
+      let w : Branch (Body k) → ℕ = λ b. sum_by f (numbers k b.number b.body) in
+      omega (
+        arith,
+        own_first f k number (body ++ x ∷ []),
+        own_first f k number body,
+        sum_by-append w body (x ∷ []),
+        sum_by-cons w x [],
+        sum_by-append f (numbers (suc k) number body) (numbers_in (suc k) x),
+      )
+
+  pub grows_numbers : (k : ℕ) (x : Member k) (level number next : ℕ) (body : Body level) (outcome : Outcome (Body level)) (next' : ℕ) → Grows shape k x level number next body outcome next' → Counted next next' (numbers level number body ++ numbers_in k x) (numbers_left level outcome)
+  grows_numbers k x level number next body outcome next' (here s) =
+      let c = settles_numbers k number next (body ++ x ∷ []) outcome next' s in
       record {
-        count = below.count + here.count;
-        is = omega (arith, below.is, here.is);
-        sums = λ f. let w : Branch (Body level) → ℕ = λ b. sum_by f (numbers level b.number b.body) in
+        count = c.count;
+        is = c.is;
+        sums = λ f. omega (arith, c.sums f, more_numbers f k x number body);
+      }
+  grows_numbers k x (suc level) number next branches outcome next' (below front b back under mid is chosen g s) =
+      let under_c = grows_numbers k x level b.number next b.body under mid g in
+      let here_c = settles_numbers (suc level) number mid (with_outcome front under back) outcome next' s in
+      record {
+        count = under_c.count + here_c.count;
+        is = omega (arith, under_c.is, here_c.is);
+        sums = λ f. let w : Branch (Body level) → ℕ = λ c. sum_by f (numbers level c.number c.body) in
             omega (
               arith,
-              here.sums f,
-              with_numbers f level number g.0 g.2 g.3,
-              below.sums f,
+              here_c.sums f,
+              with_numbers f level number front back under,
+              under_c.sums f,
+              sum_by-append f (numbers level b.number b.body) (numbers_in k x),
+              sum_by-append f (numbers (suc level) number branches) (numbers_in k x),
               own_first f level number branches,
-              ap (sum_by w) g.5,
-              sum_by-append w g.0 (g.1 ∷ g.2),
-              sum_by-cons w g.1 g.2,
-              new_more f next g.4 below.count here.count below.is,
+              ap (sum_by w) is,
+              sum_by-append w front (b ∷ back),
+              sum_by-cons w b back,
+              new_more f next mid under_c.count here_c.count under_c.is,
             );
       }
 
@@ -206,19 +224,26 @@ module _ (shape : Shape) (v : IsShape shape) where
           sum_by-append w (entries level a.body) (entries level b.body),
         )
 
-    pub grows_entries : (level number next : ℕ) (body : Body level) (e : Entry) (outcome : Outcome (Body level)) (next' : ℕ) → Grows shape level number next body e outcome next' → sum_by w (entries_left level outcome) ≡ sum_by w (entries level body) + w e
-    grows_entries zero number next es e outcome next' g = omega (arith, settles_entries zero number next (es ++ e ∷ []) outcome next' g, sum_by-append w es (e ∷ []), sum_by-cons w e [])
-    grows_entries (suc level) number next branches e outcome next' g =
-        let f : Branch (Body level) → ℕ = λ b. sum_under level b.body in
+    more_entries : (k : ℕ) (x : Member k) (body : Body k) → sum_under k (body ++ x ∷ []) ≡ sum_under k body + sum_under k (x ∷ [])
+    more_entries zero x body = sum_by-append w body (x ∷ [])
+    more_entries (suc k) x body =
+        let f : Branch (Body k) → List Entry = λ b. entries k b.body in
+        let g : Branch (Body k) → ℕ = λ b. sum_under k b.body in
+        omega (arith, sum_flat_map w f (body ++ x ∷ []), sum_flat_map w f body, sum_flat_map w f (x ∷ []), sum_by-append g body (x ∷ []))
+
+    pub grows_entries : (k : ℕ) (x : Member k) (level number next : ℕ) (body : Body level) (outcome : Outcome (Body level)) (next' : ℕ) → Grows shape k x level number next body outcome next' → sum_by w (entries_left level outcome) ≡ sum_by w (entries level body) + sum_by w (entries k (x ∷ []))
+    grows_entries k x level number next body outcome next' (here s) = settles_entries k number next (body ++ x ∷ []) outcome next' s ∙ more_entries k x body
+    grows_entries k x (suc level) number next branches outcome next' (below front b back under mid is chosen g s) =
+        let f : Branch (Body level) → ℕ = λ c. sum_under level c.body in
         omega (
           arith,
-          settles_entries (suc level) number g.4 (with_outcome g.0 g.3 g.2) outcome next' g.8,
-          with_entries level g.0 g.2 g.3,
-          grows_entries level g.1.number next g.1.body e g.3 g.4 g.7,
-          sum_flat_map w (λ (b : Branch (Body level)). entries level b.body) branches,
-          ap (sum_by f) g.5,
-          sum_by-append f g.0 (g.1 ∷ g.2),
-          sum_by-cons f g.1 g.2,
+          settles_entries (suc level) number mid (with_outcome front under back) outcome next' s,
+          with_entries level front back under,
+          grows_entries k x level b.number next b.body under mid g,
+          sum_flat_map w (λ (c : Branch (Body level)). entries level c.body) branches,
+          ap (sum_by f) is,
+          sum_by-append f front (b ∷ back),
+          sum_by-cons f b back,
         )
 
 -- what holds of the entries and of the new one holds of all after it
@@ -252,12 +277,18 @@ module _ (shape : Shape) (P : Entry → Type 0) where
       all_append (λ (c : Branch (Body level)). Under level c.body) front (a ∷ (back ++ b ∷ [])) f
       (all_front P (entries level a.body) (entries level b.body) h, all_append (λ (c : Branch (Body level)). Under level c.body) back (b ∷ []) k (all_back P (entries level a.body) (entries level b.body) h, tt))
 
-  pub grows_all : (level number next : ℕ) (body : Body level) (e : Entry) (outcome : Outcome (Body level)) (next' : ℕ) → Grows shape level number next body e outcome next' → AllByRecursion P (entries level body) → P e → AllByRecursion P (entries_left level outcome)
-  grows_all zero number next es e outcome next' g h p = settles_all zero number next (es ++ e ∷ []) outcome next' g (all_append P es (e ∷ []) h (p, tt))
-  grows_all (suc level) number next branches e outcome next' g h p =
-      let U : Branch (Body level) → Type 0 = λ b. Under level b.body in
-      let each : AllByRecursion U (g.0 ++ g.1 ∷ g.2) = subst (AllByRecursion U) g.5 (all_from_flat_map P (λ (b : Branch (Body level)). entries level b.body) branches h) in
-      let rest = all_back U g.0 (g.1 ∷ g.2) each in
-      let below = grows_all level g.1.number next g.1.body e g.3 g.4 g.7 rest.0 p in
-      settles_all (suc level) number g.4 (with_outcome g.0 g.3 g.2) outcome next' g.8
-      (all_flat_map P (λ (b : Branch (Body level)). entries level b.body) (with_outcome g.0 g.3 g.2) (all_with level g.0 g.2 g.3 (all_front U g.0 (g.1 ∷ g.2) each) rest.1 below))
+  pub grows_all : (k : ℕ) (x : Member k) (level number next : ℕ) (body : Body level) (outcome : Outcome (Body level)) (next' : ℕ) → Grows shape k x level number next body outcome next' → AllByRecursion P (entries level body) → Under k (x ∷ []) → AllByRecursion P (entries_left level outcome)
+  grows_all k x level number next body outcome next' (here s) h p = settles_all k number next (body ++ x ∷ []) outcome next' s (more_under k x body h p)
+    where
+      more_under : (k : ℕ) (x : Member k) (body : Body k) → Under k body → Under k (x ∷ []) → Under k (body ++ x ∷ [])
+      more_under zero x body h p = all_append P body (x ∷ []) h p
+      more_under (suc k) x body h p =
+          let f : Branch (Body k) → List Entry = λ b. entries k b.body in
+          all_flat_map P f (body ++ x ∷ []) (all_append (λ b. Under k b.body) body (x ∷ []) (all_from_flat_map P f body h) (all_from_flat_map P f (x ∷ []) p))
+  grows_all k x (suc level) number next branches outcome next' (below front b back under mid is chosen g s) h p =
+      let U : Branch (Body level) → Type 0 = λ c. Under level c.body in
+      let each : AllByRecursion U (front ++ b ∷ back) = subst (AllByRecursion U) is (all_from_flat_map P (λ (c : Branch (Body level)). entries level c.body) branches h) in
+      let rest = all_back U front (b ∷ back) each in
+      let under_all = grows_all k x level b.number next b.body under mid g rest.0 p in
+      settles_all (suc level) number mid (with_outcome front under back) outcome next' s
+      (all_flat_map P (λ (c : Branch (Body level)). entries level c.body) (with_outcome front under back) (all_with level front back under (all_front U front (b ∷ back) each) rest.1 under_all))

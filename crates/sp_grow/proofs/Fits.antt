@@ -3,13 +3,12 @@ use Rattle.std.proofs.Common.{◌≡◌, ℕ, zero, suc, ◌+◌, ◌*◌, ◌�
 use Rattle.std.specs.List.{AllByRecursion}
 use Rattle.std.proofs.lemmas.List.{length-append, length-map}
 use Rattle.sp_rect.specs.Inside.{bound_of}
-use Rattle.sp_node.specs.declared.node.Entry.{Entry}
 use Rattle.sp_node.specs.declared.node.Shape.{Shape}
-use Rattle.sp_node.specs.Nested.{Body, Branch, rects, rect_of, AreSound}
+use Rattle.sp_node.specs.Nested.{Member, Body, Branch, rects, rect_of, AreSound}
 use Rattle.sp_node.specs.Table.{IsShape}
 use Rattle.sp_node.proofs.Lists.{all_append}
 use Rattle.sp_grow.specs.Members.{pick}
-use Rattle.sp_grow.specs.Insertion.{Outcome, one, two, with_outcome, IsNode, Settles, Grows}
+use Rattle.sp_grow.specs.Insertion.{Outcome, one, two, with_outcome, IsNode, Settles, Grows, here, below}
 use Rattle.sp_grow.proofs.Numbers.{all_front, all_back}
 use Rattle.sp_grow.proofs.Counting.{all_pick}
 use Rattle.sp_grow.proofs.Divides.{grouped}
@@ -68,15 +67,24 @@ module _ (shape : Shape) (v : IsShape shape) where
       let g = length-append front (c ∷ back) in
       (omega (arith, e, f, g), omega (arith, e, f, g))
 
-  pub grows_fits : (level number next : ℕ) (body : Body level) (e : Entry) (outcome : Outcome (Body level)) (next' : ℕ) → Grows shape level number next body e outcome next' → AreSound shape level body → length body ≤ shape.max → Fits level (length body) outcome
-  grows_fits zero number next es e outcome next' g sound most =
-      let size = length-append es (e ∷ []) in
-      less zero (length es) (length (es ++ e ∷ [])) outcome (omega (arith, size)) (settles_fits zero number next (es ++ e ∷ []) outcome next' g tt (omega (arith, size)))
-  grows_fits (suc level) number next branches e outcome next' g sound most =
-      let split : AllByRecursion (IsChild level) (g.0 ++ g.1 ∷ g.2) = subst (AllByRecursion (IsChild level)) g.5 sound in
-      let rest = all_back (IsChild level) g.0 (g.1 ∷ g.2) split in
-      let below = each_child level (length g.1.body) g.3 rest.0.1 (grows_fits level g.1.number next g.1.body e g.3 g.4 g.7 rest.0.3 rest.0.2) in
-      let size : length branches ≡ length (g.0 ++ g.1 ∷ g.2) = ap (λ (bs : List (Branch (Body level))). length bs) g.5 in
-      let count = length_with g.0 g.2 g.1 g.3 in
-      less (suc level) (length branches) (length (with_outcome g.0 g.3 g.2)) outcome (omega (arith, size, count.0))
-      (settles_fits (suc level) number g.4 (with_outcome g.0 g.3 g.2) outcome next' g.8 (with_sound level g.0 g.2 g.3 (all_front (IsChild level) g.0 (g.1 ∷ g.2) split) rest.1 below) (omega (arith, size, count.1)))
+  -- what a member of a sound node is
+  abbrev pub IsPart : (k : ℕ) → Member k → Type 0
+  IsPart zero e = Unit {0}
+  IsPart (suc k) b = IsChild k b
+
+  more_sound : (k : ℕ) (x : Member k) (body : Body k) → IsPart k x → AreSound shape k body → AreSound shape k (body ++ x ∷ [])
+  more_sound zero x body p h = tt
+  more_sound (suc k) x body p h = all_append (IsChild k) body (x ∷ []) h (p, tt)
+
+  pub grows_fits : (k : ℕ) (x : Member k) → IsPart k x → (level number next : ℕ) (body : Body level) (outcome : Outcome (Body level)) (next' : ℕ) → Grows shape k x level number next body outcome next' → AreSound shape level body → length body ≤ shape.max → Fits level (length body) outcome
+  grows_fits k x p level number next body outcome next' (here s) sound most =
+      let size = length-append body (x ∷ []) in
+      less k (length body) (length (body ++ x ∷ [])) outcome (omega (arith, size)) (settles_fits k number next (body ++ x ∷ []) outcome next' s (more_sound k x body p sound) (omega (arith, size)))
+  grows_fits k x p (suc level) number next branches outcome next' (below front b back under mid is chosen g s) sound most =
+      let split : AllByRecursion (IsChild level) (front ++ b ∷ back) = subst (AllByRecursion (IsChild level)) is sound in
+      let rest = all_back (IsChild level) front (b ∷ back) split in
+      let each = each_child level (length b.body) under rest.0.1 (grows_fits k x p level b.number next b.body under mid g rest.0.3 rest.0.2) in
+      let size : length branches ≡ length (front ++ b ∷ back) = ap (λ (bs : List (Branch (Body level))). length bs) is in
+      let count = length_with front back b under in
+      less (suc level) (length branches) (length (with_outcome front under back)) outcome (omega (arith, size, count.0))
+      (settles_fits (suc level) number mid (with_outcome front under back) outcome next' s (with_sound level front back under (all_front (IsChild level) front (b ∷ back) split) rest.1 each) (omega (arith, size, count.1)))

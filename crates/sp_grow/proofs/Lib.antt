@@ -8,11 +8,14 @@ pub mod Sums
 pub mod Counting
 pub mod Fits
 pub mod Parts
+pub mod Renewed
 pub mod Settled
 pub mod Steps
 pub mod Spots
 pub mod Turns
 pub mod After
 pub mod Root
+pub mod Entered
+pub mod Inserted
 pub mod Moves
 pub mod NewEntry

@@ -17,7 +17,7 @@ use Rattle.sp_split.proofs.Members.{all_below, equal_from}
 use Rattle.sp_split.proofs.Positions.{split_positions}
 use Rattle.sp_split.proofs.Sizes.{sizes}
 use Rattle.sp_grow.specs.Members.{pick}
-use Rattle.sp_grow.specs.Insertion.{Outcome, one, two, with_outcome, Settles, Grows}
+use Rattle.sp_grow.specs.Insertion.{Outcome, one, two, with_outcome, Settles, Grows, here, below}
 use Rattle.sp_grow.specs.Grown.{IsGrown, IsRoot}
 use Rattle.sp_grow.specs.Moves.{InLeaf, InLeafOf}
 
@@ -103,22 +103,22 @@ module _ (shape : Shape) (v : IsShape shape) where
 
   -- **an old entry stays in its leaf or goes to a new one**
   pub grows_old :
-      (level number next : ℕ) (body : Body level) (e : Entry) (outcome : Outcome (Body level)) (next' : ℕ) → Grows shape level number next body e outcome next' → (f : Entry) (leaf : ℕ) → InLeaf level number body f leaf
+      (e : Entry) (level number next : ℕ) (body : Body level) (outcome : Outcome (Body level)) (next' : ℕ) → Grows shape 0 e level number next body outcome next' → (f : Entry) (leaf : ℕ) → InLeaf level number body f leaf
       → (leaf' : ℕ) × InOutcome level outcome f leaf' × ((leaf' ≡ leaf) ⊎ (next ≤ leaf'))
-  grows_old zero number next es e outcome next' g f leaf h =
-      elim (settles_leaf number next (es ++ e ∷ []) outcome next' g f (among_left f es (e ∷ []) h.1)) [
+  grows_old e level number next es outcome next' (here s) f leaf h =
+      elim (settles_leaf number next (es ++ e ∷ []) outcome next' s f (among_left f es (e ∷ []) h.1)) [
         | inl m ↦ (number, m, inl (sym h.0))
         | inr m ↦ (next, m, inr (omega arith))
       ]
-  grows_old (suc level) number next branches e outcome next' g f leaf h = by_place (among_parts h.0 g.0 (g.1 ∷ g.2) (subst (Among h.0) g.5 h.1)) (λ x. grows_old level g.1.number next g.1.body e g.3 g.4 g.7 f leaf x)
+  grows_old e (suc level) number next branches outcome next' (below front b back under mid is chosen g s) f leaf h = by_place (among_parts h.0 front (b ∷ back) (subst (Among h.0) is h.1)) (λ x. grows_old e level b.number next b.body under mid g f leaf x)
     where
-      lift : (leaf' : ℕ) → InLeaf (suc level) number (with_outcome g.0 g.3 g.2) f leaf' → InOutcome (suc level) outcome f leaf'
-      lift leaf' x = settles_above level number g.4 (with_outcome g.0 g.3 g.2) outcome next' g.8 f leaf' x
+      lift : (leaf' : ℕ) → InLeaf (suc level) number (with_outcome front under back) f leaf' → InOutcome (suc level) outcome f leaf'
+      lift leaf' x = settles_above level number mid (with_outcome front under back) outcome next' s f leaf' x
 
-      by_place : Among h.0 g.0 ⊎ Among h.0 (g.1 ∷ g.2) → (InLeaf level g.1.number g.1.body f leaf → (leaf' : ℕ) × InOutcome level g.3 f leaf' × ((leaf' ≡ leaf) ⊎ (next ≤ leaf'))) → (leaf' : ℕ) × InOutcome (suc level) outcome f leaf' × ((leaf' ≡ leaf) ⊎ (next ≤ leaf'))
-      by_place (inl m) rec = (leaf, lift leaf (h.0, sibling_with g.0 g.2 g.3 h.0 (inl m), h.2), inl refl)
-      by_place (inr (inl same)) rec = let r = rec (subst (λ (b : Branch (Body level)). InLeaf level b.number b.body f leaf) same h.2) in (r.0, lift r.0 (in_with level number g.0 g.2 g.3 f r.0 r.1), r.2)
-      by_place (inr (inr m)) rec = (leaf, lift leaf (h.0, sibling_with g.0 g.2 g.3 h.0 (inr m), h.2), inl refl)
+      by_place : Among h.0 front ⊎ Among h.0 (b ∷ back) → (InLeaf level b.number b.body f leaf → (leaf' : ℕ) × InOutcome level under f leaf' × ((leaf' ≡ leaf) ⊎ (next ≤ leaf'))) → (leaf' : ℕ) × InOutcome (suc level) outcome f leaf' × ((leaf' ≡ leaf) ⊎ (next ≤ leaf'))
+      by_place (inl m) rec = (leaf, lift leaf (h.0, sibling_with front back under h.0 (inl m), h.2), inl refl)
+      by_place (inr (inl same)) rec = let r = rec (subst (λ (c : Branch (Body level)). InLeaf level c.number c.body f leaf) same h.2) in (r.0, lift r.0 (in_with level number front back under f r.0 r.1), r.2)
+      by_place (inr (inr m)) rec = (leaf, lift leaf (h.0, sibling_with front back under h.0 (inr m), h.2), inl refl)
 
 -- in the tree after it
 module _ (t : Table) (e : Entry) (t' : Table) (g : IsGrown t e t') where
@@ -135,5 +135,5 @@ module _ (t : Table) (e : Entry) (t' : Table) (g : IsGrown t e t') where
   -- **After an insertion each old entry stands in its leaf or in a new one.**
   pub old_entry : IsShape t.shape → (f : Entry) (leaf : ℕ) → InLeafOf t f leaf → (leaf' : ℕ) × InLeafOf t' f leaf' × ((leaf' ≡ leaf) ⊎ (t.next ≤ leaf'))
   old_entry v f leaf h =
-      let r = grows_old t.shape v (level_of t) t.root t.next (body_at (look t.nodes) (level_of t) t.root) e g.outcome g.next g.grows f leaf h in
+      let r = grows_old t.shape v e (level_of t) t.root t.next (body_at (look t.nodes) (level_of t) t.root) g.outcome g.next g.grows f leaf h in
       (r.0, in_tree (level_of t) g.outcome g.next g.root f r.0 r.1, r.2)

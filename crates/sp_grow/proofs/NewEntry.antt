@@ -23,7 +23,7 @@ use Rattle.sp_split.proofs.Positions.{split_positions}
 use Rattle.sp_split.proofs.Sizes.{sizes}
 use Rattle.sp_grow.specs.Members.{pick}
 use Rattle.sp_grow.specs.Chosen.{IsBetter, IsAsGood, Reaches, ReachesOf}
-use Rattle.sp_grow.specs.Insertion.{Outcome, one, two, with_outcome, Settles, Grows}
+use Rattle.sp_grow.specs.Insertion.{Outcome, one, two, with_outcome, Settles, Grows, here, below}
 use Rattle.sp_grow.specs.Grown.{IsGrown}
 use Rattle.sp_grow.specs.Moves.{InLeaf, InLeafOf, Leaves}
 use Rattle.sp_grow.proofs.Numbers.{all_back}
@@ -126,27 +126,27 @@ module _ (shape : Shape) (v : IsShape shape) where
       inr (r.0, (refl, r.1), (next, inr (sym s.5.named, subst (Among r.0) (sym s.5.has) r.2), omega arith))
 
   pub grows_new :
-      (level number next : ℕ) (body : Body level) (e : Entry) (outcome : Outcome (Body level)) (next' : ℕ) → Grows shape level number next body e outcome next' → (leaf : ℕ) → Reaches level number body e.rect leaf → InOutcome level outcome e leaf ⊎ Gives level number next body outcome leaf
-  grows_new zero number next es e outcome next' g leaf r = subst (λ (l : ℕ). InOutcome 0 outcome e l ⊎ Gives 0 number next es outcome l) (sym r) (new_leaf number next es e outcome next' g)
-  grows_new (suc level) number next branches e outcome next' g leaf r =
-      let same : r.1 ≡ g.1 =
-      one_choice e.rect r.0 r.1 r.2 g.0 g.1 g.2 (sym r.3 ∙ g.5) (all_unmap (λ a. IsBetter e.rect r.1.rect a) (rect_of (suc level)) r.0 r.4.0) (all_unmap (λ a. IsAsGood e.rect r.1.rect a) (rect_of (suc level)) r.2 r.4.1)
-      (all_unmap (λ a. IsBetter e.rect g.1.rect a) (rect_of (suc level)) g.0 g.6.0) (all_unmap (λ a. IsAsGood e.rect g.1.rect a) (rect_of (suc level)) g.2 g.6.1) in
-      by_case (grows_new level g.1.number next g.1.body e g.3 g.4 g.7 leaf (subst (λ (b : Branch (Body level)). Reaches level b.number b.body e.rect leaf) same r.5))
+      (e : Entry) (level number next : ℕ) (body : Body level) (outcome : Outcome (Body level)) (next' : ℕ) → Grows shape 0 e level number next body outcome next' → (leaf : ℕ) → Reaches level number body e.rect leaf → InOutcome level outcome e leaf ⊎ Gives level number next body outcome leaf
+  grows_new e level number next es outcome next' (here s) leaf r = subst (λ (l : ℕ). InOutcome 0 outcome e l ⊎ Gives 0 number next es outcome l) (sym r) (new_leaf number next es e outcome next' s)
+  grows_new e (suc level) number next branches outcome next' (below front b back under mid is chosen g s) leaf r =
+      let same : r.1 ≡ b =
+      one_choice e.rect r.0 r.1 r.2 front b back (sym r.3 ∙ is) (all_unmap (λ a. IsBetter e.rect r.1.rect a) (rect_of (suc level)) r.0 r.4.0) (all_unmap (λ a. IsAsGood e.rect r.1.rect a) (rect_of (suc level)) r.2 r.4.1)
+      (all_unmap (λ a. IsBetter e.rect b.rect a) (rect_of (suc level)) front chosen.0) (all_unmap (λ a. IsAsGood e.rect b.rect a) (rect_of (suc level)) back chosen.1) in
+      by_case (grows_new e level b.number next b.body under mid g leaf (subst (λ (c : Branch (Body level)). Reaches level c.number c.body e.rect leaf) same r.5))
     where
-      lift : (f : Entry) (leaf' : ℕ) → InOutcome level g.3 f leaf' → InOutcome (suc level) outcome f leaf'
-      lift f leaf' x = settles_above shape v level number g.4 (with_outcome g.0 g.3 g.2) outcome next' g.8 f leaf' (in_with shape v level number g.0 g.2 g.3 f leaf' x)
+      lift : (f : Entry) (leaf' : ℕ) → InOutcome level under f leaf' → InOutcome (suc level) outcome f leaf'
+      lift f leaf' x = settles_above shape v level number mid (with_outcome front under back) outcome next' s f leaf' (in_with shape v level number front back under f leaf' x)
 
-      here : Among g.1 branches
-      here = subst (Among g.1) (sym g.5) (among_right g.1 g.0 (g.1 ∷ g.2) (inl refl))
+      within : Among b branches
+      within = subst (Among b) (sym is) (among_right b front (b ∷ back) (inl refl))
 
-      by_case : InOutcome level g.3 e leaf ⊎ Gives level g.1.number next g.1.body g.3 leaf → InOutcome (suc level) outcome e leaf ⊎ Gives (suc level) number next branches outcome leaf
+      by_case : InOutcome level under e leaf ⊎ Gives level b.number next b.body under leaf → InOutcome (suc level) outcome e leaf ⊎ Gives (suc level) number next branches outcome leaf
       by_case (inl x) = inl (lift e leaf x)
-      by_case (inr x) = inr (x.0, (g.1, here, x.1), (x.2.0, lift x.0 x.2.0 x.2.1, x.2.2))
+      by_case (inr x) = inr (x.0, (b, within, x.1), (x.2.0, lift x.0 x.2.0 x.2.1, x.2.2))
 
 -- **After an insertion the new entry stands in the chosen leaf, or that leaf gives an entry away.**
 pub new_entry : (t : Table) (e : Entry) (t' : Table) (g : IsGrown t e t') → IsShape t.shape → (leaf : ℕ) → ReachesOf t e.rect leaf → InLeafOf t' e leaf ⊎ ((f : Entry) × Leaves t t' f leaf)
-new_entry t e t' g v leaf r = by_case (grows_new t.shape v (level_of t) t.root t.next (body_at (look t.nodes) (level_of t) t.root) e g.outcome g.next g.grows leaf r)
+new_entry t e t' g v leaf r = by_case (grows_new t.shape v e (level_of t) t.root t.next (body_at (look t.nodes) (level_of t) t.root) g.outcome g.next g.grows leaf r)
   where
     by_case : InOutcome (level_of t) g.outcome e leaf ⊎ Gives t.shape v (level_of t) t.root t.next (body_at (look t.nodes) (level_of t) t.root) g.outcome leaf → InLeafOf t' e leaf ⊎ ((f : Entry) × Leaves t t' f leaf)
     by_case (inl x) = inl (in_tree t e t' g (level_of t) g.outcome g.next g.root e leaf x)

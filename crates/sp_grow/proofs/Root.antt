@@ -26,24 +26,19 @@ use Rattle.sp_node.proofs.Adopt.{listed}
 use Rattle.sp_node.proofs.Level.{level_is, valid_at}
 use Rattle.sp_node.proofs.Standing.{leaf_stands}
 use Rattle.sp_grow.specs.Insertion.{Outcome, one, two}
-use Rattle.sp_grow.specs.Grown.{IsGrown}
+use Rattle.sp_grow.specs.Grown.{IsGrown, IsDone}
 use Rattle.sp_grow.specs.Below.{numbers, AreChanges, IsGrownAt, IsRaisedTo, branch_at, outcome_at, EachStands}
 use Rattle.sp_grow.specs.declared.left.Left.{Left}
 use Rattle.sp_grow.specs.declared.left.Left.TheVariants.{One, Two}
 use Rattle.sp_grow.specs.declared.left.Draft.{Draft}
 use Rattle.sp_grow.proofs.Numbers.{numbers_places, numbers_left, AreKept, outcome_kept, each_kept}
-use Rattle.sp_grow.proofs.Counting.{new_numbers, Counted, grows_numbers, entries_left, grows_entries, grows_all}
+use Rattle.sp_grow.specs.Reached.{new_numbers}
+use Rattle.sp_grow.proofs.Counting.{Counted, grows_numbers, entries_left, grows_entries, grows_all}
 use Rattle.sp_grow.proofs.Fits.{Fits, grows_fits}
 use Rattle.sp_grow.proofs.Parts.{look_own, look_other, length_put}
 use Rattle.sp_grow.proofs.Settled.{put_changes, next_off}
 use Rattle.sp_grow.proofs.Spots.{root_spot}
 use Rattle.sp_grow.proofs.After.{own, own_low, no_return, then_distinct, then_low, then_whole, then_distinct_entries, then_same, all_members}
-
--- what an insertion's plan owes
-pub record IsDone (t : Table) (e : Entry) (plan : Plan) : Type 0 where
-  pub made : IsMadeOf t plan
-  pub grown : IsGrown t e (planned t plan)
-  pub few : length plan.parts ≤ 2 * (level_of t + 1) + 1
 
 module _ (t : Table) (v : IsValid t) (rising : IsAscending t.nodes) (e : Entry) (fresh : leaf_with t.nodes e.number ≡ None) (space : IsRectangle e.rect) (numbers_free : t.next < 2 ^ 63 + 2 ^ 32) where
   -- the entries have not the number
@@ -103,7 +98,7 @@ module _ (t : Table) (v : IsValid t) (rising : IsAscending t.nodes) (e : Entry) 
     level_then = level_is tree level valid
 
   -- the root is raised
-  module _ (left : Left) (draft : Draft) (g : IsGrownAt t e (level_of t) t.root left draft) where
+  module _ (left : Left) (draft : Draft) (g : IsGrownAt t 0 e (level_of t) t.root left draft) where
     abbrev at : ℕ → Option Node
     at = look (with_parts t.nodes draft.parts)
 
@@ -114,24 +109,24 @@ module _ (t : Table) (v : IsValid t) (rising : IsAscending t.nodes) (e : Entry) 
     old = body_at (look t.nodes) (level_of t) t.root
 
     counted : Counted t.next draft.next (own t v rising) (numbers_left (level_of t) outcome)
-    counted = grows_numbers t.shape v.shape (level_of t) t.root t.next (body_at (look t.nodes) (level_of t) t.root) e outcome draft.next g.grows
+    counted = subst (λ (ns : List ℕ). Counted t.next draft.next ns (numbers_left (level_of t) outcome)) (append-nil (own t v rising)) (grows_numbers t.shape v.shape 0 e (level_of t) t.root t.next (body_at (look t.nodes) (level_of t) t.root) outcome draft.next g.grows)
 
     fits : Fits t.shape v.shape (level_of t) (length (body_at (look t.nodes) (level_of t) t.root)) outcome
-    fits = grows_fits t.shape v.shape (level_of t) t.root t.next (body_at (look t.nodes) (level_of t) t.root) e outcome draft.next g.grows v.sound (root_spot t v numbers_free).most
+    fits = grows_fits t.shape v.shape 0 e tt (level_of t) t.root t.next (body_at (look t.nodes) (level_of t) t.root) outcome draft.next g.grows v.sound (root_spot t v numbers_free).most
 
     entry_sums : (w : Entry → ℕ) → sum_by w (entries_left (level_of t) outcome) ≡ sum_by w (entries_of t) + w e
-    entry_sums w = grows_entries t.shape v.shape w (level_of t) t.root t.next (body_at (look t.nodes) (level_of t) t.root) e outcome draft.next g.grows
+    entry_sums w = omega (arith, grows_entries t.shape v.shape w 0 e (level_of t) t.root t.next (body_at (look t.nodes) (level_of t) t.root) outcome draft.next g.grows, sum_by-cons w e [])
 
     entry_each : AllByRecursion (λ f. Among f (entries_of t) ⊎ (f ≡ e)) (entries_left (level_of t) outcome)
     entry_each =
-        grows_all t.shape (λ f. Among f (entries_of t) ⊎ (f ≡ e)) (level_of t) t.root t.next (body_at (look t.nodes) (level_of t) t.root) e outcome draft.next g.grows (all_imply (λ f h. inl h) (entries_of t) (all_members (entries_of t))) (inr refl)
+        grows_all t.shape (λ f. Among f (entries_of t) ⊎ (f ≡ e)) 0 e (level_of t) t.root t.next (body_at (look t.nodes) (level_of t) t.root) outcome draft.next g.grows (all_imply (λ f h. inl h) (entries_of t) (all_members (entries_of t))) (inr refl, tt)
 
   still_root : (level m n : ℕ) → IsRootSize t.shape level m → m ≤ n → n ≤ t.shape.max → IsRootSize t.shape level n
   still_root zero m n h le most = most
   still_root (suc level) m n h le most = (omega (arith, h.0), most)
 
   -- the root is left whole
-  kept_tree : (a : Child) (draft : Draft) → IsGrownAt t e (level_of t) t.root (One a) draft → IsTree draft a.node (level_of t)
+  kept_tree : (a : Child) (draft : Draft) → IsGrownAt t 0 e (level_of t) t.root (One a) draft → IsTree draft a.node (level_of t)
   kept_tree a draft g =
       let c = counted (One a) draft g in
       let f = fits (One a) draft g in
@@ -147,7 +142,7 @@ module _ (t : Table) (v : IsValid t) (rising : IsAscending t.nodes) (e : Entry) 
         entry_each = entry_each (One a) draft g;
       }
 
-  done_kept : (a : Child) (draft : Draft) → IsGrownAt t e (level_of t) t.root (One a) draft → IsDone t e (record { parts = draft.parts; root = a.node; next = draft.next })
+  done_kept : (a : Child) (draft : Draft) → IsGrownAt t 0 e (level_of t) t.root (One a) draft → IsDone t e (record { parts = draft.parts; root = a.node; next = draft.next })
   done_kept a draft g =
       let h = kept_tree a draft g in
       record {
@@ -163,7 +158,7 @@ module _ (t : Table) (v : IsValid t) (rising : IsAscending t.nodes) (e : Entry) 
       }
 
   -- the root is split, and a new one stands above its halves
-  module _ (a b : Child) (draft : Draft) (g : IsGrownAt t e (level_of t) t.root (Two a b) draft) where
+  module _ (a b : Child) (draft : Draft) (g : IsGrownAt t 0 e (level_of t) t.root (Two a b) draft) where
     abbrev halves : Node
     halves = Inner (a ∷ b ∷ [])
 
@@ -267,6 +262,6 @@ module _ (t : Table) (v : IsValid t) (rising : IsAscending t.nodes) (e : Entry) 
   plan_is : (plan : Plan) (ps : List Part) (root next : ℕ) → plan.root ≡ root → plan.next ≡ next → plan.parts ≡ ps → record { parts = ps; root = root; next = next } ≡ plan
   plan_is plan ps root next a b c = λ i. record { parts = sym c i; root = sym a i; next = sym b i }
 
-  pub done : (left : Left) (draft : Draft) (plan : Plan) → IsGrownAt t e (level_of t) t.root left draft → IsRaisedTo left draft plan → IsDone t e plan
+  pub done : (left : Left) (draft : Draft) (plan : Plan) → IsGrownAt t 0 e (level_of t) t.root left draft → IsRaisedTo left draft plan → IsDone t e plan
   done (One a) draft plan g r = subst (IsDone t e) (plan_is plan draft.parts a.node draft.next r.0 r.1 r.2) (done_kept a draft g)
   done (Two a b) draft plan g r = subst (IsDone t e) (plan_is plan (put_part draft.parts (Now draft.next (Inner (a ∷ b ∷ [])))) draft.next (draft.next + 1) r.0 r.1 r.2) (done_raised a b draft g)

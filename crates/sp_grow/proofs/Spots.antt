@@ -70,7 +70,7 @@ root_spot t v numbers_left = record {
   some = some_of (level_of t) v.root_size;
   most = most_of (level_of t) v.root_size;
   sound = v.sound;
-  low = omega arith;
+  low = omega (arith, level_small t v);
   distinct = subst (IsDistinct nat_eq) (numbers_places (level_of t) t.root whole (body_at (look t.nodes) (level_of t) t.root)) v.distinct;
   below_next = subst (AllByRecursion (λ n. n < t.next)) (numbers_places (level_of t) t.root whole (body_at (look t.nodes) (level_of t) t.root)) v.below_next;
   fresh = λ k le. elim (node_of_number t v k) [ inl p ↦ absurd (used k p.0 p.1 p.2 le) | inr n ↦ n.1 ];
@@ -91,7 +91,7 @@ root_spot t v numbers_left = record {
     most_of zero s = s
     most_of (suc level) s = s.1
 
-module _ (t : Table) (level number : ℕ) (front : List Child) (c : Child) (back : List Child) (is : look t.nodes number ≡ Some (Inner (front ++ c ∷ back))) (spot : IsSpot t (suc level) number) (e : Entry) where
+module _ (t : Table) (level number : ℕ) (front : List Child) (c : Child) (back : List Child) (is : look t.nodes number ≡ Some (Inner (front ++ c ∷ back))) (spot : IsSpot t (suc level) number) where
   abbrev under : Child → List ℕ
   under d = numbers level d.node (body_at (look t.nodes) level d.node)
 
@@ -102,16 +102,16 @@ module _ (t : Table) (level number : ℕ) (front : List Child) (c : Child) (back
       let rest = all_back (λ d. IsChild t.shape spot.shape level (branch_at (look t.nodes) level d)) front (c ∷ back) (subst (λ (n : Option Node). AllByRecursion (λ d. IsChild t.shape spot.shape level (branch_at (look t.nodes) level d)) (children_in n)) is each) in
       let stood = all_back (λ d. Stands (look t.nodes) level d.node) front (c ∷ back) (subst (λ (n : Option Node). AllByRecursion (λ d. Stands (look t.nodes) level d.node) (children_in n)) is spot.stands.1) in
       let least : 2 ≤ t.shape.min = spot.shape.least in
-      let low : suc level ≤ level_of t = spot.low in
+      let room : t.next + suc level + 2 < 2 ^ 64 = spot.room in
       record {
         shape = spot.shape;
         stands = stood.0;
         some = λ lt. omega (arith, rest.0.1);
         most = rest.0.2;
         sound = rest.0.3;
-        low = omega arith;
-        distinct = distinct_front (under c) (flat_map under back) (distinct_back (flat_map under front) (under c ++ flat_map under back) (rest_distinct t e level number front c back is spot));
-        below_next = all_front (λ n. n < t.next) (under c) (flat_map under back) (all_back (λ n. n < t.next) (flat_map under front) (under c ++ flat_map under back) (all_own t e level number front c back is spot).1);
+        low = omega (arith, spot.low);
+        distinct = distinct_front (under c) (flat_map under back) (distinct_back (flat_map under front) (under c ++ flat_map under back) (rest_distinct t level number front c back is spot));
+        below_next = all_front (λ n. n < t.next) (under c) (flat_map under back) (all_back (λ n. n < t.next) (flat_map under front) (under c ++ flat_map under back) (all_own t level number front c back is spot).1);
         fresh = spot.fresh;
-        room = spot.room;
+        room = omega arith;
       }

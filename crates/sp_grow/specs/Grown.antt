@@ -1,8 +1,10 @@
 -- A tree after the insertion of an entry, after Guttman, "R-Trees", SIGMOD 1984.
-use Rattle.std.specs.Prelude.{◌≡◌, ℕ, suc, ◌+◌, [], ◌∷◌}
+use Rattle.std.specs.Prelude.{◌≡◌, ◌≤◌, ℕ, suc, ◌+◌, ◌*◌, [], ◌∷◌, length}
 use Rattle.sp_node.specs.declared.node.Entry.{Entry}
 use Rattle.sp_node.specs.Nested.{Body}
+use Rattle.sp_node.specs.declared.plan.Plan.{Plan}
 use Rattle.sp_node.specs.Look.{look}
+use Rattle.sp_node.specs.Plan.{IsMadeOf, planned}
 use Rattle.sp_node.specs.Table.{Table, body_at, level_of}
 use Rattle.sp_grow.specs.Insertion.{Outcome, one, two, Grows}
 
@@ -15,6 +17,12 @@ IsRoot level (two a b) next t = (t.root ≡ next) × (t.next ≡ next + 1) × (l
 pub record IsGrown (t : Table) (e : Entry) (t' : Table) : Type 0 where
   pub outcome : Outcome (Body (level_of t))
   pub next : ℕ
-  pub grows : Grows t.shape (level_of t) t.root t.next (body_at (look t.nodes) (level_of t) t.root) e outcome next
+  pub grows : Grows t.shape 0 e (level_of t) t.root t.next (body_at (look t.nodes) (level_of t) t.root) outcome next
   pub root : IsRoot (level_of t) outcome next t'
   pub shape : t'.shape ≡ t.shape
+
+-- what the plan of an insertion is
+pub record IsDone (t : Table) (e : Entry) (plan : Plan) : Type 0 where
+  pub made : IsMadeOf t plan
+  pub grown : IsGrown t e (planned t plan)
+  pub few : length plan.parts ≤ 2 * (level_of t + 1) + 1

@@ -1,9 +1,8 @@
 -- What an insertion leaves of a node, on nested trees with numbers and positions.
 use Rattle.std.specs.Prelude.{◌≡◌, ℕ, zero, suc, ◌+◌, ◌<◌, ◌≤◌, List, [], ◌∷◌, ◌++◌, length, Some}
 use Rattle.sp_rect.specs.Inside.{bound_of}
-use Rattle.sp_node.specs.declared.node.Entry.{Entry}
 use Rattle.sp_node.specs.declared.node.Shape.{Shape}
-use Rattle.sp_node.specs.Nested.{Body, Branch, rects}
+use Rattle.sp_node.specs.Nested.{Member, Body, Branch, rects, rect_of}
 use Rattle.sp_split.specs.Split.{Splits}
 use Rattle.sp_grow.specs.Chosen.{IsChosen}
 use Rattle.sp_grow.specs.Members.{pick}
@@ -31,10 +30,9 @@ Settles shape level number next members (one a) next' = (length members ≤ shap
 Settles shape level number next members (two a b) next' =
     (first : List ℕ) × (second : List ℕ) × (shape.max < length members) × Splits (rects level members) shape.min first second × IsNode level a number (pick members first) × IsNode level b next (pick members second) × (next' ≡ next + 1)
 
--- The entry goes to the end of the leaf that is chosen from level to level; then each node above gets what is
--- left of its child.
-abbrev pub Grows : Shape → (level number next : ℕ) → Body level → Entry → Outcome (Body level) → ℕ → Type 0
-Grows shape zero number next es e outcome next' = Settles shape zero number next (es ++ e ∷ []) outcome next'
-Grows shape (suc level) number next branches e outcome next' =
-    (front : List (Branch (Body level))) × (b : Branch (Body level)) × (back : List (Branch (Body level))) × (below : Outcome (Body level)) × (mid : ℕ) × (branches ≡ front ++ b ∷ back)
-    × IsChosen (rects (suc level) front) b.rect (rects (suc level) back) e.rect × Grows shape level b.number next b.body e below mid × Settles shape (suc level) number mid (with_outcome front below back) outcome next'
+-- The member goes to the end of a node of its level, which is chosen from level to level; then each node above
+-- gets what is left of its child. An entry is a member of a node of level 0.
+pub data Grows (shape : Shape) (k : ℕ) (x : Member k) : (level number next : ℕ) → Body level → Outcome (Body level) → ℕ → Type 0 where
+  here : {number next : ℕ} {body : Body k} {outcome : Outcome (Body k)} {next' : ℕ} → Settles shape k number next (body ++ x ∷ []) outcome next' → Grows shape k x k number next body outcome next'
+  below : {level number next : ℕ} {branches : Body (suc level)} {outcome : Outcome (Body (suc level))} {next' : ℕ} (front : List (Branch (Body level))) (b : Branch (Body level)) (back : List (Branch (Body level))) (under : Outcome (Body level)) (mid : ℕ) → branches ≡ front ++ b ∷ back
+      → IsChosen (rects (suc level) front) b.rect (rects (suc level) back) (rect_of k x) → Grows shape k x level b.number next b.body under mid → Settles shape (suc level) number mid (with_outcome front under back) outcome next' → Grows shape k x (suc level) number next branches outcome next'

@@ -1,6 +1,9 @@
 pub mod Chosen
 pub mod Members
+pub mod Overlay
 pub mod Insertion
 pub mod Grown
 pub mod Below
 pub mod Moves
+pub mod Nest
+pub mod Reached

@@ -1,10 +1,12 @@
 -- Lists of members, and what an insertion makes of them.
-use Rattle.std.specs.Prelude.{ℕ, List, [], ◌∷◌, ◌++◌, map, slice_get}
+use Rattle.std.specs.Prelude.{ℕ, Bool, true, List, [], ◌∷◌, ◌++◌, map, slice_get, ltb}
 use Rattle.std.specs.Option.{option_to_list}
 use Rattle.sp_rect.specs.Plane.{Rectangle}
-use Rattle.sp_node.specs.declared.node.Child.{Child}
+use Rattle.sp_node.specs.declared.node.Child.{Child as ChildOf}
 use Rattle.sp_node.specs.declared.node.Node.{Node}
 use Rattle.sp_node.specs.declared.node.Node.TheVariants.{Leaf, Inner}
+use Rattle.sp_grow.specs.declared.member.Member.{Member}
+use Rattle.sp_grow.specs.declared.member.Member.TheVariants.{Entry, Child}
 use Rattle.sp_grow.specs.declared.left.Left.{Left}
 use Rattle.sp_grow.specs.declared.left.Left.TheVariants.{One, Two}
 
@@ -24,6 +26,29 @@ pick_node (Leaf es) is = Leaf (pick es is)
 pick_node (Inner cs) is = Inner (pick cs is)
 
 -- what is left of a child in its place; the second node of a split stands at the end
-abbrev pub put_left : List Child → Left → List Child → List Child
+abbrev pub put_left : List ChildOf → Left → List ChildOf → List ChildOf
 put_left front (One a) back = front ++ a ∷ back
 put_left front (Two a b) back = front ++ a ∷ (back ++ b ∷ [])
+
+abbrev pub rect_of_member : Member → Rectangle
+rect_of_member (Entry e) = e.rect
+rect_of_member (Child c) = c.rect
+
+-- an entry goes below each inner node, and a child where steps are left
+abbrev pub goes_below : Member → ℕ → Bool
+goes_below (Entry e) steps = true
+goes_below (Child c) steps = ltb 0 steps
+
+-- the member is one of such a node's
+abbrev pub Belongs : Node → Member → Type 0
+Belongs (Leaf es) (Entry e) = Unit {0}
+Belongs (Leaf es) (Child c) = ⊥
+Belongs (Inner cs) (Entry e) = ⊥
+Belongs (Inner cs) (Child c) = Unit {0}
+
+-- the node with the member at its end
+abbrev pub node_with : Node → Member → Node
+node_with (Leaf es) (Entry e) = Leaf (es ++ e ∷ [])
+node_with (Leaf es) (Child c) = Leaf es
+node_with (Inner cs) (Entry e) = Inner cs
+node_with (Inner cs) (Child c) = Inner (cs ++ c ∷ [])

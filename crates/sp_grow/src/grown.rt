@@ -1,15 +1,25 @@
 // Insertion: the changes from the chosen leaf up to the root.
-ghost use Rattle.std.specs.Prelude.{◌≡◌, ◌<◌, ◌≤◌, ◌+◌, ◌*◌, ◌^◌, ◌∷◌, [], ℕ, None, IfOk, IfErr, Some, length, take, drop, slice_index_or};
+ghost use Rattle.std.specs.Prelude.{◌≡◌, ◌<◌, ◌≤◌, ◌+◌, ◌*◌, ◌^◌, ◌∷◌, [], ℕ, None, IfOk, IfErr, Some, MatchOption, length, take, drop, slice_index_or};
+ghost use Rattle.std.specs.Option.{option_copied};
+ghost use Rattle.sp_rect.specs.Plane.{IsRectangle};
+ghost use Rattle.sp_node.specs.declared.node.Entry.{Entry};
 ghost use Rattle.sp_node.specs.Index.{leaf_with};
 ghost use Rattle.sp_node.specs.Plan.{IsMadeOf, planned, put_part};
 ghost use Rattle.sp_node.specs.Table.{level_of, IsShape};
 ghost use Rattle.sp_grow.specs.Grown.{IsGrown};
-ghost use Rattle.sp_grow.specs.Members.{rects_in, put_left};
-ghost use Rattle.sp_grow.specs.Below.{IsSpot, IsStepped, IsGrownAt, no_child, IsRaised};
+ghost use Rattle.sp_grow.specs.Grown.{IsDone};
+ghost use Rattle.sp_grow.specs.Members.{rects_in, put_left, node_with, Belongs};
+ghost use Rattle.sp_grow.specs.Overlay.{table_of};
+ghost use Rattle.sp_grow.specs.Reached.{IsPart, Reached};
+ghost use Rattle.sp_grow.specs.declared.member.Member.{Member};
+ghost use Rattle.sp_grow.specs.declared.member.Member.TheVariants.{Entry as EntryOf};
+ghost use Rattle.sp_grow.specs.Below.{IsHome, GoesBelow, Aims, IsStepped, IsSettled, IsGrownAt, IsInsertion, no_draft, no_child, IsRaised};
 
 use crate::choice::choose_child;
 use crate::left::{Draft, Left, Step, settle, with_left};
-use crate::members::{bound_of_children, with_entry};
+use crate::member::Member;
+use crate::members::{bound_of_children, with_member};
+use crate::planned::Planned;
 use sp_node::{Child, Children, Entry, Node, Part, Parts, Plan, Shape, Tree, put_part};
 use std::alloc::{AllocError, Global};
 
@@ -39,26 +49,64 @@ fn step_up(
     settle(alloc, shape, below.draft, number, Node::Inner(items))
 }
 
-// Inserts the entry below the node of this number.
-fn grow_below(alloc: Global, tree: &Tree, number: u64, entry: &Entry) -> Result<Step, AllocError>
-    requires { (level : ℕ) × IsSpot tree.now.table level number }
-    ensures { IfOk result (λ step. (level : ℕ) → IsSpot tree.now.table level number → IsGrownAt tree.now.table entry.now level number step.left step.draft) }
+// The children of the node, where the member goes below it.
+fn children_below<'a>(node: &'a Node, steps: usize, member: &Member) -> Option<&'a Children>
+    ensures { MatchOption (option_copied result) (IsHome node.now member.now steps) (GoesBelow node.now member.now steps) }
 {
-    match tree.node(number) {
-        Some(Node::Leaf(entries)) => {
-            let items = with_entry(alloc, entries, entry)?;
-            let draft = Draft {
-                parts: Parts::new(alloc),
-                next: tree.next(),
-            };
-            settle(alloc, tree.shape(), draft, number, Node::Leaf(items))
+    match node {
+        Node::Leaf(_) => None,
+        Node::Inner(children) => {
+            if member.goes_below(steps) {
+                Some(children)
+            } else {
+                None
+            }
         }
-        Some(Node::Inner(children)) => {
-            let at = choose_child(children.as_slice(), &entry.rect);
-            let child = children.as_slice()[at].node;
-            let below = grow_below(alloc, tree, child, entry)?;
-            step_up(alloc, tree.shape(), number, children, at, below)
-        }
+    }
+}
+
+// Inserts the member at the node.
+fn start(
+    alloc: Global,
+    base: &Planned<'_>,
+    number: u64,
+    node: &Node,
+    member: &Member,
+) -> Result<Step, AllocError>
+    requires belongs { Belongs node.now member.now }
+    requires shape { IsShape base.now.before.shape }
+    requires numbers { base.now.plan.next + 1 < 2 ^ 64 }
+    ensures { IfOk result (λ step. IsSettled base.now.before.shape (no_draft base.now.plan.next) number (node_with node.now member.now) step.left step.draft) }
+{
+    let filled = with_member(alloc, node, member)?;
+    let draft = Draft {
+        parts: Parts::new(alloc),
+        next: base.next(),
+    };
+    settle(alloc, base.shape(), draft, number, filled)
+}
+
+// Inserts the member at the node of this number, or below it: a child so many steps below.
+fn grow_below(
+    alloc: Global,
+    base: &Planned<'_>,
+    number: u64,
+    steps: usize,
+    member: &Member,
+) -> Result<Step, AllocError>
+    requires { Aims (table_of base.now) member.now steps number }
+    ensures { IfOk result (λ step. (a : Aims (table_of base.now) member.now steps number) → IsGrownAt (table_of base.now) a.k a.x a.level number step.left step.draft) }
+{
+    match base.node(number) {
+        Some(node) => match children_below(node, steps, member) {
+            Some(children) => {
+                let at = choose_child(children.as_slice(), &member.rect());
+                let child = children.as_slice()[at].node;
+                let below = grow_below(alloc, base, child, steps.saturating_sub(1), member)?;
+                step_up(alloc, base.shape(), number, children, at, below)
+            }
+            None => start(alloc, base, number, node, member),
+        },
         None => unreachable!(),
     }
 }
@@ -88,18 +136,60 @@ fn raise(alloc: Global, step: Step) -> Result<Plan, AllocError>
     })
 }
 
-// The insertion of an entry that the caller keeps.
-fn plan(alloc: Global, tree: &Tree, entry: &Entry) -> Result<Plan, AllocError>
-    requires fresh { leaf_with tree.now.table.nodes entry.now.number ≡ None }
-    requires numbers { tree.now.table.next < 2 ^ 63 + 2 ^ 32 }
-    ensures made { IfOk result (λ plan. IsMadeOf tree.now.table plan) }
-    ensures grown { IfOk result (λ plan. IsGrown tree.now.table entry.now (planned tree.now.table plan)) }
-    ensures parts { IfOk result (λ plan. length plan.parts ≤ 2 * (level_of tree.now.table + 1) + 1) }
+// The insertion of a member, and its steps.
+fn insert_at(
+    alloc: Global,
+    base: &Planned<'_>,
+    steps: usize,
+    member: &Member,
+) -> Result<Plan, AllocError>
+    requires { Aims (table_of base.now) member.now steps base.now.plan.root }
+    ensures step { IfOk result (λ plan. (a : Aims (table_of base.now) member.now steps base.now.plan.root) → IsInsertion (table_of base.now) a.k a.x a.level plan) }
+    ensures reached { IfOk result (λ plan. (a : Aims (table_of base.now) member.now steps base.now.plan.root) → IsPart base.now.before.shape a.k a.x → Reached (table_of base.now) a.k a.x a.level plan) }
 {
-    let _in_space = entry.rect.x1();
-    let _next = tree.next();
-    let step = grow_below(alloc, tree, tree.root(), entry)?;
+    let step = grow_below(alloc, base, base.root(), steps, member)?;
     raise(alloc, step)
+}
+
+/// The insertion of a member into a tree with changes on it, as a plan for the tree as it stands there: an
+/// entry goes into the leaf that is chosen as `choose_leaf` chooses, and a child into a node that is chosen so,
+/// as many steps below the root. A node with more than `max` members is split as `grow` says.
+///
+/// The tree need not be valid: its root may have one child, and members that were taken out may have their
+/// nodes in the table still. `Reached` says what the plan makes of it. The one error is want of memory. Costs
+/// the members of the nodes on one path, squared where a node is split, and for each node on it the changes.
+pub fn insert(
+    alloc: Global,
+    base: &Planned<'_>,
+    steps: usize,
+    member: &Member,
+) -> Result<Plan, AllocError>
+    requires { Aims (table_of base.now) member.now steps base.now.plan.root }
+    ensures { IfOk result (λ plan. (a : Aims (table_of base.now) member.now steps base.now.plan.root) → IsPart base.now.before.shape a.k a.x → Reached (table_of base.now) a.k a.x a.level plan) }
+{
+    insert_at(alloc, base, steps, member)
+}
+
+// The insertion of an entry that the caller keeps.
+fn plan(alloc: Global, tree: &Tree, entry: &Member) -> Result<Plan, AllocError>
+    requires fresh { (e : Entry) × (entry.now ≡ Member.Entry e) × (leaf_with tree.now.table.nodes e.number ≡ None) × IsRectangle e.rect }
+    requires numbers { tree.now.table.next < 2 ^ 63 + 2 ^ 32 }
+    ensures { IfOk result (λ plan. (e : Entry) → entry.now ≡ Member.Entry e → IsDone tree.now.table e plan) }
+{
+    let _valid = tree.next();
+    let base = Planned::new(alloc, tree);
+    insert_at(alloc, &base, 0, entry)
+}
+
+// The entry that the member is.
+fn entry_of(member: Member) -> Entry
+    requires { (e : Entry) × (member ≡ Member.Entry e) }
+    ensures { member ≡ Member.Entry result }
+{
+    match member {
+        Member::Entry(entry) => entry,
+        Member::Child(_) => unreachable!(),
+    }
 }
 
 /// The insertion of an entry, as a plan: the nodes that it makes or changes, the root, and the next unused
@@ -121,8 +211,10 @@ pub fn grow(alloc: Global, tree: &Tree, entry: Entry) -> Result<Plan, (Entry, Al
     ensures parts { IfOk result (λ plan. length plan.parts ≤ 2 * (level_of tree.now.table + 1) + 1) }
     ensures back { IfErr result (λ e. e.0 ≡ entry) }
 {
-    match plan(alloc, tree, &entry) {
+    let _in_space = entry.rect.x1();
+    let member = Member::Entry(entry);
+    match plan(alloc, tree, &member) {
         Ok(plan) => Ok(plan),
-        Err(e) => Err((entry, e)),
+        Err(e) => Err((entry_of(member), e)),
     }
 }

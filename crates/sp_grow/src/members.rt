@@ -1,10 +1,11 @@
 // The members of a node as lists.
 ghost use Rattle.std.specs.Prelude.{◌≡◌, ◌<◌, ◌∷◌, ◌++◌, [], IfOk, OnOk, Some, length, map};
 ghost use Rattle.sp_rect.specs.Inside.{bound_of};
-ghost use Rattle.sp_grow.specs.Members.{pick, rects_in, pick_node};
+ghost use Rattle.sp_grow.specs.Members.{pick, rects_in, pick_node, node_with, Belongs};
 
+use crate::member::Member;
 use sp_list::{Duplicate, Sequence};
-use sp_node::{Child, Entries, Entry, Node};
+use sp_node::{Child, Entry, Node};
 use sp_rect::{Numbers, Rect};
 use std::alloc::{AllocError, Global};
 
@@ -52,6 +53,15 @@ pub(crate) fn bound(rects: &[Rect]) -> Rect
     bound
 }
 
+/// The smallest rectangle that encloses the node's members. Costs the members.
+pub fn bound_of_node(alloc: Global, node: &Node) -> Result<Rect, AllocError>
+    requires { 0 < length (rects_in node.now) }
+    ensures { IfOk result (λ rect. bound_of (rects_in node.now) ≡ Some rect) }
+{
+    let rects = rects_of(alloc, node)?;
+    Ok(bound(&rects))
+}
+
 /// The smallest rectangle that encloses all children.
 pub(crate) fn bound_of_children(children: &[Child]) -> Rect
     requires { 0 < length children.now }
@@ -92,15 +102,22 @@ pub(crate) fn pick_node(alloc: Global, node: &Node, positions: &Numbers) -> Resu
     }
 }
 
-/// Copies of the entries, with one more at the end.
-pub(crate) fn with_entry(
-    alloc: Global,
-    entries: &Entries,
-    entry: &Entry,
-) -> Result<Entries, AllocError>
-    ensures { IfOk result (λ items. items ≡ entries.now ++ entry.now ∷ []) }
+/// A copy of the node with the member at its end.
+pub(crate) fn with_member(alloc: Global, node: &Node, member: &Member) -> Result<Node, AllocError>
+    requires { Belongs node.now member.now }
+    ensures { IfOk result (λ changed. changed ≡ node_with node.now member.now) }
 {
-    let mut items = entries.copy(alloc)?;
-    items.push(entry.copy(alloc)?)?;
-    Ok(items)
+    match (node, member) {
+        (Node::Leaf(entries), Member::Entry(entry)) => {
+            let mut items = entries.copy(alloc)?;
+            items.push(entry.copy(alloc)?)?;
+            Ok(Node::Leaf(items))
+        }
+        (Node::Inner(children), Member::Child(child)) => {
+            let mut items = children.copy(alloc)?;
+            items.push(*child)?;
+            Ok(Node::Inner(items))
+        }
+        _ => unreachable!(),
+    }
 }
