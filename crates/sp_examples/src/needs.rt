@@ -1,6 +1,6 @@
-// The short locks that insertions want, over trees whose leaves stand apart, and over one with a leaf as wide
+// The short locks that insertions and removals want, over trees whose leaves stand apart, and over one with a leaf as wide
 // as its sibling is high.
-use crate::trees::{plan_of, rect_of, tree_of};
+use crate::trees::{plan_of, rect_of, removal_of, tree_of};
 use sp_grow::choose_leaf;
 use sp_locks::{Duration, Mode, Name, Needs};
 use sp_needs::short_needs;
@@ -115,6 +115,53 @@ fn short_needs_of_insertions(rt: HostRuntime) -> Result<(), Fail> {
         let tree = tree_of(alloc, case.tree)?;
         let needs = needs_of(alloc, &tree, 9, case.put)?;
         assert!(rt; are(&needs, case.wanted), "case {i}");
+    }
+    Ok(())
+}
+
+// The removal of an entry by its number, and the granules on which that wants short locks.
+struct Removal {
+    tree: &'static [Corners],
+    entry: u64,
+    wanted: &'static [(u64, Mode)],
+}
+
+const REMOVALS: [Removal; 3] = [
+    // the second leaf is gone and gives its other entry to the first, which is the root then
+    Removal {
+        tree: &APART,
+        entry: 3,
+        wanted: &[(2, Mode::SIX), (3, Mode::IX)],
+    },
+    // the same where the first leaf is full, and split
+    Removal {
+        tree: &[
+            (0, 0, 2, 2),
+            (8, 8, 10, 10),
+            (100, 0, 102, 2),
+            (108, 8, 110, 10),
+            (4, 4, 6, 6),
+            (1, 1, 2, 2),
+        ],
+        entry: 3,
+        wanted: &[(1, Mode::SIX), (2, Mode::SIX), (3, Mode::IX)],
+    },
+    // no granule changes
+    Removal {
+        tree: &APART,
+        entry: 5,
+        wanted: &[],
+    },
+];
+
+#[test]
+fn short_needs_of_removals(rt: HostRuntime) -> Result<(), Fail> {
+    let alloc = rt.alloc();
+    for (i, case) in REMOVALS.iter().enumerate() {
+        let tree = tree_of(alloc, case.tree)?;
+        let plan = removal_of(alloc, &tree, case.entry)?;
+        let needs = short_needs(alloc, &tree, &plan, None)?;
+        assert!(rt; are(&needs, case.wanted), "removal {i}");
     }
     Ok(())
 }

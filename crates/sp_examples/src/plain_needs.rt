@@ -1,11 +1,13 @@
-// The short locks of random insertions, against a plain model that looks at all granules before and after,
+// The short locks of random insertions and removals, against a plain model that looks at all granules before and after,
 // point by point.
-use crate::trees::{adopt, plan_of, rect_of};
+ghost use Rattle.sp_node.specs.Plan.{IsMadeOf};
+
+use crate::trees::{adopt, plan_of, rect_of, removal_of};
 use sp_granule::space;
 use sp_grow::choose_leaf;
 use sp_locks::{Mode, Name, Needs};
 use sp_needs::short_needs;
-use sp_node::{Node, Shape, Tree};
+use sp_node::{Node, Plan, Shape, Tree};
 use sp_rect::{Point, Rect};
 use std::alloc::{AllocError, Global};
 use std::test::Fail;
@@ -129,12 +131,15 @@ fn plain_needs(
     alloc: Global,
     before: &[Seen],
     after: &[Seen],
-    chosen: u64,
+    chosen: Option<u64>,
 ) -> Result<Vec<(u64, bool)>, AllocError> {
     let points = points(alloc)?;
     let mut sources = Vec::new(alloc);
     for granule in before {
-        if granule.number == chosen || gives(granule, after) || loses(granule, after, &points) {
+        if chosen == Some(granule.number)
+            || gives(granule, after)
+            || loses(granule, after, &points)
+        {
             sources.push(granule.number)?;
         }
     }
@@ -177,20 +182,32 @@ fn random_rect(state: u64) -> Result<(Rect, u64), Fail> {
     Ok((rect_of((x, y, right, top))?, d))
 }
 
-// Inserts a rectangle, and says whether its short needs are those of the model.
-fn agrees(alloc: Global, tree: &mut Tree, number: u64, rect: Rect) -> Result<bool, Fail> {
+// Makes the change, and says whether its short needs are those of the model.
+fn agrees(alloc: Global, tree: &mut Tree, plan: Plan, chosen: Option<u64>) -> Result<bool, Fail>
+    requires { IsMadeOf tree.old.table plan }
+{
     let before = all_seen(alloc, tree)?;
-    let chosen = choose_leaf(tree, &rect);
-    let plan = plan_of(alloc, tree, number, number, rect)?;
-    let needs = short_needs(alloc, tree, &plan, Some(chosen))?;
+    let needs = short_needs(alloc, tree, &plan, chosen)?;
     adopt(tree, plan)?;
     let after = all_seen(alloc, tree)?;
     let plain = plain_needs(alloc, &before, &after, chosen)?;
     Ok(are_same(&needs, &plain))
 }
 
+fn inserts(alloc: Global, tree: &mut Tree, number: u64, rect: Rect) -> Result<bool, Fail> {
+    let chosen = choose_leaf(tree, &rect);
+    let plan = plan_of(alloc, tree, number, number, rect)?;
+    agrees(alloc, tree, plan, Some(chosen))
+}
+
+fn removes(alloc: Global, tree: &mut Tree, number: u64) -> Result<bool, Fail> {
+    let plan = removal_of(alloc, tree, number)?;
+    agrees(alloc, tree, plan, None)
+}
+
+// Rectangles are inserted, and each third time an earlier one is removed, if it is still there.
 #[test]
-fn short_needs_of_random_insertions(rt: HostRuntime) -> Result<(), Fail> {
+fn short_needs_of_random_changes(rt: HostRuntime) -> Result<(), Fail> {
     let alloc = rt.alloc();
     let mut tree = Tree::new(alloc, Shape { max: 4, min: 2 })?;
     let mut state: u64 = 1;
@@ -198,9 +215,13 @@ fn short_needs_of_random_insertions(rt: HostRuntime) -> Result<(), Fail> {
         let (rect, next) = random_rect(state)?;
         state = next;
         assert!(rt;
-            agrees(alloc, &mut tree, number, rect)?,
+            inserts(alloc, &mut tree, number, rect)?,
             "insertion {number}"
         );
+        let other = state % (number + 1);
+        if number % 3 == 0 && tree.leaf_of(other).is_some() {
+            assert!(rt; removes(alloc, &mut tree, other)?, "removal {other}");
+        }
     }
     Ok(())
 }

@@ -2,6 +2,7 @@
 ghost use Rattle.std.specs.Prelude.{IfOk};
 ghost use Rattle.sp_node.specs.Plan.{IsMadeOf};
 
+use sp_condense::remove;
 use sp_grow::grow;
 use sp_node::{Draft, Ended, Entry, Made, Marks, Plan, Shape, Tree};
 use sp_rect::{Rect, Value};
@@ -66,6 +67,16 @@ pub fn plan_of(alloc: Global, tree: &Tree, number: u64, id: u64, rect: Rect) -> 
         Ok(plan) => Ok(plan),
         Err(_) => Err(Fail::from("no memory")),
     }
+}
+
+/// The removal of the entry of this number.
+pub fn removal_of(alloc: Global, tree: &Tree, number: u64) -> Result<Plan, Fail>
+    ensures { IfOk result (λ plan. IsMadeOf tree.now.table plan) }
+{
+    if tree.leaf_of(number).is_none() || tree.next() >= MOST_NODES {
+        return Err(Fail::from("no entry"));
+    }
+    Ok(remove(alloc, tree, number)?)
 }
 
 fn insert(alloc: Global, tree: &mut Tree, number: u64, id: u64, rect: Rect) -> Result<(), Fail> {
