@@ -1,0 +1,6 @@
+pub mod State
+pub mod Refusals
+pub mod Moves
+pub mod Plans
+pub mod Stepped
+pub mod Soundness
