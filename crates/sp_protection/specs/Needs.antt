@@ -1,6 +1,6 @@
 -- What an operation needs: commit locks on granules and objects, and for a change of the tree short locks on
 -- granules. Each rule is told alone; the need on a name is the least mode that covers all that the rules want there.
-use Rattle.std.specs.Prelude.{◌≡◌, ◌≢◌, ℕ, ◌<◌, Bool, true, false, IsTrue, List, [], ◌∷◌, Option, Some, None}
+use Rattle.std.specs.Prelude.{◌≡◌, ◌≢◌, ℕ, ◌<◌, true, IsTrue, List, [], ◌∷◌, Option}
 use Rattle.sp_locks.specs.declared.mode.Mode.{Mode}
 use Rattle.sp_locks.specs.declared.mode.Mode.TheVariants.{IX, S, SIX, X}
 use Rattle.sp_locks.specs.declared.row.Name.{Name}
@@ -11,7 +11,7 @@ use Rattle.sp_locks.specs.declared.needs.Need.{Need}
 use Rattle.sp_locks.specs.Modes.{covers}
 use Rattle.sp_rect.specs.Plane.{Rectangle, Point, holds}
 use Rattle.sp_rect.specs.declared.operation.Op.{Op}
-use Rattle.sp_rect.specs.declared.operation.Op.TheVariants.{Put, Drop, Set, Get, Find, Fill, Clear}
+use Rattle.sp_rect.specs.declared.operation.Op.TheVariants.{Drop, Set, Find, Fill, Clear}
 use Rattle.sp_node.specs.declared.node.Entry.{Entry}
 use Rattle.sp_node.specs.Among.{Among}
 use Rattle.sp_granule.specs.Granules.{Granule, Standing, standing, in_granule}

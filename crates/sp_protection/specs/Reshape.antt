@@ -1,5 +1,5 @@
 -- When needs on granules license the change from one tree to another.
-use Rattle.std.specs.Prelude.{◌≡◌, ◌≢◌, ◌⊎◌, ℕ, true, false, IsTrue, List, Option, Some}
+use Rattle.std.specs.Prelude.{◌≡◌, ◌≢◌, ◌⊎◌, ℕ, true, false, List, Option, Some}
 use Rattle.sp_locks.specs.declared.mode.Mode.TheVariants.{IX, SIX}
 use Rattle.sp_rect.specs.Plane.{Point}
 use Rattle.sp_node.specs.Among.{Among}

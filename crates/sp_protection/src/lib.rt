@@ -2,11 +2,15 @@
 //! whose rectangles are guarded do not see each other.
 #![tactic(auto)]
 
-ghost use Rattle.std.specs.Prelude.{◌≡◌, ◌≢◌, ℕ, List};
-ghost use Rattle.sp_locks.specs.declared.row.Name.{Name as AnyName};
-ghost use Rattle.sp_locks.specs.declared.mode.Mode.{Mode as AnyMode};
-ghost use Rattle.sp_granule.specs.Granules.{Granule as AnyGranule};
-ghost use Rattle.sp_protection.specs.Guarding.{Guarded, Owned, MarksOwned};
-ghost use Rattle.sp_protection.specs.Needs.{StayWant, PutWant, ShortWant, AreNeedsOf};
-ghost use Rattle.sp_protection.specs.Effects.{applied};
-ghost use Rattle.sp_protection.specs.Reshape.{Licensed};
+mod insertion;
+mod licensing;
+mod phantoms;
+mod replays;
+
+pub use insertion::insertion_keeps_all;
+pub use licensing::{held_needs_are_unopposed, licensed_change_keeps, short_needs_license};
+pub use phantoms::{no_phantom, search_guards};
+pub use replays::{
+    commits_are_apart, ids_are_distinct, marks_are_owned, operations_apply, order_is_free,
+    rollbacks_are_apart, undisturbed,
+};
