@@ -4,3 +4,5 @@ pub mod Moves
 pub mod Plans
 pub mod Stepped
 pub mod Soundness
+pub mod Opening
+pub mod Runs

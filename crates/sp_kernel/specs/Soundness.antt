@@ -1,8 +1,9 @@
 -- What holds of a kernel between events. Each part speaks of the parts of a kernel that it names.
-use Rattle.std.specs.Prelude.{◌≡◌, ◌≢◌, ◌⊎◌, ℕ, ◌+◌, ◌<◌, ◌≤◌, ◌^◌, Bool, true, false, not, nat_eq, List, [], ◌∷◌, ◌++◌, map, filter, length, Option, Some, None}
+use Rattle.std.specs.Prelude.{◌≡◌, ◌≢◌, ◌⊎◌, ℕ, ◌+◌, ◌<◌, ◌≤◌, ◌^◌, Bool, true, false, ◌&&◌, nat_eq, List, [], ◌∷◌, ◌++◌, map, filter, length, Option, Some, None}
 use Rattle.std.specs.List.{AllByRecursion, IsDistinct, list_any}
 use Rattle.sp_rect.specs.Store.{IsOrdered}
 use Rattle.sp_rect.specs.Serial.{Serial, after_all}
+use Rattle.sp_rect.specs.declared.operation.Answered.{Answered}
 use Rattle.sp_rect.specs.declared.operation.Op.{Op}
 use Rattle.sp_locks.specs.declared.mode.Mode.{Mode}
 use Rattle.sp_locks.specs.declared.row.Name.{Name}
@@ -163,6 +164,7 @@ pub record Sound (k : Kernel) : Type 0 where
   -- what each active transaction looked at it guards, what it marked it owns, and what it was told holds on what is live
   pub rectangles : (x : Session) → Among x k.sessions → is_active x ≡ true → HasRectangles x.txn.ops
   pub parts : (x : Session) → Among x k.sessions → is_active x ≡ true → HoldsParts (granules k.tree) (locks_of k.sessions k.locks) x.txn.number x.txn.ops
+  pub objects : (x : Session) (pair : Answered) → Among x k.sessions → is_active x ≡ true → Among pair x.txn.ops → HoldsObject k.locks x.txn.session pair.op
   pub owned : MarksOwned (granules k.tree) (locks_of k.sessions k.locks) (entries_in k)
   pub replays : (x : Session) → Among x k.sessions → is_active x ≡ true → Replays (entries_in k) x.txn.number x.txn.ops
   pub active : MarksActive k.sessions (entries_in k)
