@@ -1,3 +1,5 @@
 pub mod Sessions
 pub mod Holding
 pub mod Released
+pub mod Locking
+pub mod Counting
