@@ -4,3 +4,6 @@ pub mod Planned
 pub mod Leaving
 pub mod Dead
 pub mod Settling
+pub mod Released
+pub mod Locking
+pub mod Counting

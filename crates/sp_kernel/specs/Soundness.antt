@@ -13,6 +13,7 @@ use Rattle.sp_locks.specs.declared.row.Duration.TheVariants.{Commit, Short}
 use Rattle.sp_locks.specs.declared.needs.Need.{Need}
 use Rattle.sp_locks.specs.Modes.{covers}
 use Rattle.sp_locks.specs.Rows.{is_lock_of, is_held_by, is_short, same_name}
+use Rattle.sp_locks.specs.Table.{row_of}
 use Rattle.sp_locks.specs.Soundness.{IsSound}
 use Rattle.sp_waits.specs.Edges.{NoCycle}
 use Rattle.sp_node.specs.declared.node.Entry.{Entry}
@@ -82,6 +83,10 @@ LatchShared sessions = (x y : Session) → Among x sessions → Among y sessions
 abbrev pub HoldsObject : List Row → ℕ → Op → Type 0
 HoldsObject rows s op = (name : Name) (mode : Mode) → object_of op ≡ Some (name, mode) → is_held rows s (record { name = name; mode = mode; duration = Commit }) ≡ true
 
+-- the session holds the lock on the object of the operation, or waits for it
+abbrev pub AwaitsObject : List Row → ℕ → Op → Type 0
+AwaitsObject rows s op = (name : Name) (mode : Mode) → object_of op ≡ Some (name, mode) → (is_held rows s (record { name = name; mode = mode; duration = Commit }) ≡ true) ⊎ Among (row_of s name mode Commit true) rows
+
 -- some lock of the session covers the need, for however long it is held
 abbrev pub is_met : List Row → ℕ → Need → Bool
 is_met rows s need = list_any (λ row. is_held_by s row && (same_name row.name need.name && covers row.mode need.mode)) rows
@@ -96,8 +101,9 @@ pub record IsPlanned (k : Kernel) (x : Session) (op : Op) (left : List Need) : T
   pub only : (need : Need) → Among need left → Among need commit ⊎ Among need short
   pub in_order : AreInOrder left
 
--- from the lock on its object on, an operation holds it; once planned, its needs are met
+-- an operation that waited for the lock on its object waits for it or holds it, and holds it from then on; once planned, its needs are met
 abbrev pub HoldsStage : Kernel → Session → Stage → Type 0
+HoldsStage k x (NameWait op) = AwaitsObject k.locks x.txn.session op
 HoldsStage k x (Named op) = HoldsObject k.locks x.txn.session op
 HoldsStage k x (NeedWait op) = HoldsObject k.locks x.txn.session op
 HoldsStage k x (Planned op left) = HoldsObject k.locks x.txn.session op × IsPlanned k x op left
