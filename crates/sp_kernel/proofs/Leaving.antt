@@ -22,7 +22,7 @@ use Rattle.sp_kernel.specs.declared.session.Session.{Session}
 use Rattle.sp_kernel.specs.declared.session.Stage.{Stage}
 use Rattle.sp_kernel.specs.declared.session.Stage.TheVariants.{Idle, Started, NameWait, Named, NeedWait, Planned, Queued, Placed}
 use Rattle.sp_kernel.specs.State.{Kernel, entries_in, is_active, is_active_stage, locks_of}
-use Rattle.sp_kernel.specs.Soundness.{SoundSessions, RowsOwned, NamesUsed, SharesLatch, LatchShared, HoldsStage, MarksActive, NumbersUsed, DeadListed, QueueSound, WithinCounts, Sound}
+use Rattle.sp_kernel.specs.Soundness.{SoundSessions, RowsOwned, NamesUsed, SharesLatch, LatchShared, AwaitsObject, HoldsStage, MarksActive, NumbersUsed, DeadListed, QueueSound, WithinCounts, Sound}
 use Rattle.sp_kernel.proofs.Sessions.{one-session, one-keyed}
 use Rattle.sp_kernel.proofs.Holding.{StayMet, met-held, object-stays, HoldsStill, StayThere, locks-still, parts-still, owned-still}
 use Rattle.sp_kernel.proofs.Planned.{standing_same, MarksChange, same_granules, changed_entries, LeavesSight, stage_with}
@@ -48,6 +48,7 @@ pub record Ends (change : Entry → Entry) (x : Session) (k k' : Kernel) : Type 
   pub rows : RowsOwned k'.sessions k'.locks
   pub names : NamesUsed k.tree.next k'.locks
   pub held : (y : Session) → Among y k.sessions → y.txn.session ≢ x.txn.session → StayMet y.txn.session k.locks k'.locks
+  pub awaits : (y : Session) (op : Op) → Among y k.sessions → y.txn.session ≢ x.txn.session → AwaitsObject k.locks y.txn.session op → AwaitsObject k'.locks y.txn.session op
   pub next_txn : k'.next_txn ≡ k.next_txn
   pub sessions : SoundSessions k'.next_txn (length k'.commits) k'.sessions
   pub stay : (y : Session) → Among y k.sessions → y.txn.session ≢ x.txn.session → Among y k'.sessions
@@ -114,7 +115,7 @@ module _ (change : Entry → Entry) (x : Session) (k k' : Kernel) (sound : Sound
   stages y i = go (ends.was y i)
     where
       go : (Among y k.sessions × (y.txn.session ≢ x.txn.session)) ⊎ (y.stage ≡ Placed) → HoldsStage k' y y.stage
-      go (inl h) = stage_with change k k' y y.stage ends.marks (λ op left e. ends.sight y op left h.0 h.1 e) (ends.held y h.0 h.1) (sound.stages y h.0)
+      go (inl h) = stage_with change k k' y y.stage ends.marks (λ op left e. ends.sight y op left h.0 h.1 e) (ends.held y h.0 h.1) (λ op. ends.awaits y op h.0 h.1) (sound.stages y h.0)
       go (inr h) = subst (λ (s : Stage). HoldsStage k' y s) (sym h) tt
 
   parts : (y : Session) → Among y k'.sessions → is_active y ≡ true → HoldsParts (granules k'.tree) (locks_of k'.sessions k'.locks) y.txn.number y.txn.ops

@@ -42,7 +42,7 @@ use Rattle.sp_kernel.specs.declared.session.Stage.{Stage}
 use Rattle.sp_kernel.specs.declared.session.Stage.TheVariants.{Idle, Started, NameWait, Named, NeedWait, Planned, Queued, Placed}
 use Rattle.sp_kernel.specs.State.{Kernel, entries_in}
 use Rattle.sp_kernel.specs.Plans.{adds, IsInserted, HasNeeds, Stays, Adds, is_held}
-use Rattle.sp_kernel.specs.Soundness.{HoldsObject, is_met, IsPlanned, HoldsStage}
+use Rattle.sp_kernel.specs.Soundness.{HoldsObject, AwaitsObject, is_met, IsPlanned, HoldsStage}
 use Rattle.sp_kernel.proofs.Holding.{StayMet, met-held, held-stays, met-stays, object-stays}
 
 module _ (change : Entry → Entry) (keeps : Keeps change) where
@@ -338,8 +338,8 @@ planned_from k k' x op left needs stay h = record {
     met need (inr i) = inr i
 
 -- what a session holds by its stage stays where the needs of what it has planned do and its locks
-pub stage_from : (k k' : Kernel) (x : Session) (stage : Stage) → ((op : Op) (left commit short : List Need) → stage ≡ Planned op left → HasNeeds k x op commit short → HasNeeds k' x op commit short) → StayMet x.txn.session k.locks k'.locks → HoldsStage k x stage → HoldsStage k' x stage
-stage_from k k' x stage needs stay h = go stage needs h
+pub stage_from : (k k' : Kernel) (x : Session) (stage : Stage) → ((op : Op) (left commit short : List Need) → stage ≡ Planned op left → HasNeeds k x op commit short → HasNeeds k' x op commit short) → StayMet x.txn.session k.locks k'.locks → ((op : Op) → AwaitsObject k.locks x.txn.session op → AwaitsObject k'.locks x.txn.session op) → HoldsStage k x stage → HoldsStage k' x stage
+stage_from k k' x stage needs stay awaits h = go stage needs h
   where
     object : (op : Op) → HoldsObject k.locks x.txn.session op → HoldsObject k'.locks x.txn.session op
     object op = object-stays x.txn.session k.locks k'.locks (met-held x.txn.session k.locks k'.locks stay) op
@@ -347,7 +347,7 @@ stage_from k k' x stage needs stay h = go stage needs h
     go : (at : Stage) → ((op : Op) (left commit short : List Need) → at ≡ Planned op left → HasNeeds k x op commit short → HasNeeds k' x op commit short) → HoldsStage k x at → HoldsStage k' x at
     go Idle n l = tt
     go (Started op) n l = tt
-    go (NameWait op) n l = tt
+    go (NameWait op) n l = awaits op l
     go (Named op) n l = object op l
     go (NeedWait op) n l = object op l
     go (Planned op left) n l = (object op l.0, planned_from k k' x op left (λ commit short. n op left commit short refl) stay l.1)
@@ -355,9 +355,9 @@ stage_from k k' x stage needs stay h = go stage needs h
     go Placed n l = tt
 
 -- the same where the tree stays
-pub stage_stays : (k k' : Kernel) (x : Session) (stage : Stage) → k'.tree ≡ k.tree → k'.next_entry ≡ k.next_entry → StayMet x.txn.session k.locks k'.locks → HoldsStage k x stage → HoldsStage k' x stage
+pub stage_stays : (k k' : Kernel) (x : Session) (stage : Stage) → k'.tree ≡ k.tree → k'.next_entry ≡ k.next_entry → StayMet x.txn.session k.locks k'.locks → ((op : Op) → AwaitsObject k.locks x.txn.session op → AwaitsObject k'.locks x.txn.session op) → HoldsStage k x stage → HoldsStage k' x stage
 stage_stays k k' x stage tree next = stage_from k k' x stage (λ op left commit short _. needs_same k k' x op commit short tree next)
 
 -- the same where marks change that the operation doesn't see
-pub stage_with : (change : Entry → Entry) (k k' : Kernel) (x : Session) (stage : Stage) → MarksChange change k k' → ((op : Op) (left : List Need) → stage ≡ Planned op left → LeavesSight change (entries_in k) x.txn.number op) → StayMet x.txn.session k.locks k'.locks → HoldsStage k x stage → HoldsStage k' x stage
+pub stage_with : (change : Entry → Entry) (k k' : Kernel) (x : Session) (stage : Stage) → MarksChange change k k' → ((op : Op) (left : List Need) → stage ≡ Planned op left → LeavesSight change (entries_in k) x.txn.number op) → StayMet x.txn.session k.locks k'.locks → ((op : Op) → AwaitsObject k.locks x.txn.session op → AwaitsObject k'.locks x.txn.session op) → HoldsStage k x stage → HoldsStage k' x stage
 stage_with change k k' x stage marks leaves = stage_from k k' x stage (λ op left commit short e. needs_with change k k' x op commit short marks (leaves op left e))
