@@ -7,3 +7,4 @@ pub mod Settling
 pub mod Released
 pub mod Locking
 pub mod Counting
+pub mod Left
