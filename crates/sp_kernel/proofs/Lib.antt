@@ -8,3 +8,4 @@ pub mod Released
 pub mod Locking
 pub mod Counting
 pub mod Left
+pub mod Endings

@@ -1,0 +1,145 @@
+-- A rollback, a commit, and the news of a commit keep a kernel sound.
+use Rattle.std.proofs.Common.{◌≡◌, ◌≢◌, ◌⊎◌, ℕ, suc, ◌+◌, ◌<◌, ◌≤◌, Bool, true, false, not, cond, List, [], ◌∷◌, ◌++◌, map, filter, length, Option, None, Some, refl, sym, ap, ap₂, ◌∙◌, subst, inl, inr, true≢false, arith}
+use Rattle.std.specs.List.{IsDistinct, sum_by}
+use Rattle.std.specs.Prelude.{nat_eq}
+use Rattle.std.proofs.lemmas.List.{length-map}
+use Rattle.std.proofs.lemmas.List.Sums.{sum_by_push}
+use Rattle.sp_rect.specs.declared.record.Record.{Record}
+use Rattle.sp_rect.specs.declared.commit.Commit.{Commit}
+use Rattle.sp_rect.specs.declared.operation.Op.{Op}
+use Rattle.sp_rect.specs.declared.operation.Op.TheVariants.{Put, Drop, Set, Get, Find, Fill, Clear}
+use Rattle.sp_rect.specs.Store.{Part, Id, Area, part_of, IsOrdered}
+use Rattle.sp_rect.specs.Serial.{records_after, RepliesAsPlain, SerialFrom, Serial, after_all}
+use Rattle.sp_locks.specs.declared.mode.Mode.{Mode}
+use Rattle.sp_locks.specs.declared.mode.Mode.TheVariants.{S, X}
+use Rattle.sp_locks.specs.declared.row.Name.{Name}
+use Rattle.sp_locks.specs.declared.row.Name.TheVariants.{Object}
+use Rattle.sp_locks.specs.declared.row.Row.{Row}
+use Rattle.sp_locks.specs.declared.row.Duration.TheVariants.{Commit as ToTheEnd}
+use Rattle.sp_locks.specs.declared.row.Scope.TheVariants.{ShortLocks, AllRows}
+use Rattle.sp_locks.specs.declared.needs.Need.{Need}
+use Rattle.sp_locks.specs.Modes.{covers}
+use Rattle.sp_locks.specs.Rows.{waiting_in}
+use Rattle.sp_locks.specs.Table.{released}
+use Rattle.sp_waits.specs.declared.edge.Edge.{Edge}
+use Rattle.sp_node.specs.declared.node.Entry.{Entry}
+use Rattle.sp_node.specs.Among.{Among}
+use Rattle.sp_node.specs.Change.{table_with, Keeps}
+use Rattle.sp_node.specs.Marks.{is_marked, is_done, settled, undone}
+use Rattle.sp_node.specs.Table.{Table, IsValid, entries_of}
+use Rattle.sp_node.proofs.Changed.{valid_with, entries_of_with}
+use Rattle.sp_granule.specs.Granules.{granules}
+use Rattle.sp_txn.specs.Visible.{is_live, is_visible, record_of, record_for, live, view}
+use Rattle.sp_audit.specs.declared.ended.Ended.{Ended}
+use Rattle.sp_protection.specs.Holding.{Lock, HoldsMode, AllCompatible}
+use Rattle.sp_protection.specs.Replays.{Replays, OneEach}
+use Rattle.sp_protection.proofs.Applying.{rollback-live, rollback_replays}
+use Rattle.sp_protection.proofs.Clashes.{covers-trans, clash, exclusive-against_shared}
+use Rattle.sp_protection.proofs.Commits.{commit_shows_view, commit_undisturbed}
+use Rattle.sp_protection.proofs.Rearranging.{ordered_parts, run_ordered, one_each}
+use Rattle.sp_kernel.specs.declared.session.Session.{Session}
+use Rattle.sp_kernel.specs.declared.session.Stage.{Stage}
+use Rattle.sp_kernel.specs.declared.session.Stage.TheVariants.{Idle, Started, NameWait, Named, NeedWait, Planned, Queued, Placed}
+use Rattle.sp_kernel.specs.State.{Kernel, entries_in, is_active, is_active_stage, sessions_without, locks_of}
+use Rattle.sp_kernel.specs.Refusals.{under_way, kept_operations}
+use Rattle.sp_kernel.specs.Moves.{newly_dead, with_ended, let_short_go, rolled_back, placed_commit, committed}
+use Rattle.sp_kernel.specs.Plans.{object_of}
+use Rattle.sp_kernel.specs.Stepped.{records_told}
+use Rattle.sp_kernel.specs.Soundness.{HoldsObject, HoldsStage, DeadListed, is_queued, Sound}
+use Rattle.sp_kernel.proofs.Sessions.{one-keyed, of_without, among-without}
+use Rattle.sp_kernel.proofs.Holding.{row-mode, of_held, locks-compatible}
+use Rattle.sp_kernel.proofs.Counting.{share, without-sum}
+use Rattle.sp_kernel.proofs.Dead.{StayDead, stay_dead-map, dead_grows}
+use Rattle.sp_kernel.proofs.Planned.{LeavesSight}
+use Rattle.sp_kernel.proofs.Leaving.{Ends, ends_sound}
+use Rattle.sp_kernel.proofs.Left.{Left, left_released, left_twice, rows-without, sound-without, queue-without, Counted, counts_left}
+use Rattle.sp_kernel.proofs.Settling.{undone-keeps, settled-keeps, undone-done, settled-done, undone-free, settled-free, undone-others, settled-others, undone-seen, settled-seen, undone-new, settled-new}
+
+-- a session of another number has another transaction
+pub numbers-other : (k : Kernel) (x y : Session) → Sound k → Among x k.sessions → Among y k.sessions → y.txn.session ≢ x.txn.session → y.txn.number ≢ x.txn.number
+numbers-other k x y sound i j other same = other (ap (λ (z : Session). z.txn.session) (one-keyed (λ (z : Session). z.txn.number) k.sessions sound.sessions.numbers y x j i same))
+
+-- the dead list after a change of marks that leaves the dead dead
+pub dead-with : (k : Kernel) (change : Entry → Entry) → Sound k → Keeps change → ((e : Entry) → is_done e.marks.ended ≡ true → is_done (change e).marks.ended ≡ true) → DeadListed (k.dead ++ newly_dead (entries_in k) (map change (entries_in k))) (map change (entries_in k))
+dead-with k change sound keeps done =
+    dead_grows k.dead (entries_in k) (map change (entries_in k))
+    (subst (λ (es : List Entry). IsDistinct nat_eq (map (λ e. e.number) es)) (entries_of_with change keeps k.tree) (valid_with change keeps k.tree sound.valid).distinct_entries)
+    (stay_dead-map change (entries_in k) keeps.number done) sound.dead
+
+-- a kernel without the transaction, as it is undone
+pub gone : Session → List Row → List Ended → Kernel → Kernel
+gone x rows ended k = record k {
+  tree = table_with (undone x.txn.number) k.tree;
+  dead = k.dead ++ newly_dead (entries_in k) (map (undone x.txn.number) (entries_in k));
+  sessions = sessions_without x.txn.session k.sessions;
+  locks = rows;
+  ended = ended;
+}
+
+gone-ends : (k : Kernel) (x : Session) (rows : List Row) (ended : List Ended) → Sound k → Among x k.sessions → is_active x ≡ true → is_queued x.stage ≡ false → length ended ≤ length k.ended + 1
+    → Left x.txn.session k.sessions k.tree.next k.locks rows → Ends (undone x.txn.number) x k (gone x rows ended k)
+unfolding gone
+gone-ends k x rows ended sound here active unqueued few left = record {
+  here = here;
+  marks = record { tree = refl; next_entry = refl };
+  keeps = undone-keeps x.txn.number;
+  marked = λ t e i m. undone-others x.txn.number t e m;
+  free = λ t e h. undone-free x.txn.number t e h;
+  sight = λ y op left' i other at. record {
+    keeps = undone-keeps x.txn.number;
+    sight = λ id e is j same. undone-seen x.txn.number y.txn.number e (numbers-other k x y sound here i other);
+    new = λ r n. undone-new x.txn.number y.txn.number r n (numbers-other k x y sound here i other);
+  };
+  replays = λ y i other a. rollback_replays x.txn.number y.txn.number (entries_in k) y.txn.ops (numbers-other k x y sound here i other) (sound.replays y i a);
+  base = refl;
+  serial = sound.serial;
+  current = rollback-live x.txn.number (entries_in k) ∙ sound.current;
+  locks = left.locks;
+  acyclic = left.acyclic;
+  rows = rows-without x.txn.session k.sessions rows left.others left.owned;
+  names = left.names;
+  held = λ y i other. left.held y.txn.session other;
+  awaits = λ y op i other h. left.awaits y.txn.session op other h;
+  next_txn = refl;
+  sessions = sound-without k.next_txn (length k.commits) (length k.commits) x.txn.session k.sessions (omega arith) sound.sessions;
+  stay = λ y i other. among-without x.txn.session k.sessions y i other;
+  was = λ y i. inl (of_without x.txn.session k.sessions y i);
+  dead = dead-with k (undone x.txn.number) sound (undone-keeps x.txn.number) (undone-done x.txn.number);
+  queued = queue-without x k.sessions k.queue k.flight k.calls sound.sessions.ascending here unqueued sound.queued;
+  counts = counts_left k (gone x rows ended k) x sound.counts (record {
+    sums = λ f. without-sum f k.sessions sound.sessions.ascending x here;
+    old = λ y i a. (of_without x.txn.session k.sessions y i).0;
+    endings = rw active (omega (arith, few));
+    kept = more (kept_operations k.commits) (share (λ y. length y.txn.ops + under_way y.stage) x);
+    told = more (sum_by (λ c. records_told c.ops) k.commits) (share (λ y. records_told y.txn.ops) x);
+    entries = ap length (entries_of_with (undone x.txn.number) (undone-keeps x.txn.number) k.tree) ∙ length-map (entries_in k) (undone x.txn.number);
+    next = refl;
+    next_entry = refl;
+    next_txn = refl;
+  });
+}
+  where
+    more : (a b : ℕ) → a ≤ a + b
+    more a b = omega arith
+
+-- a rollback keeps a kernel sound, after whichever release of the session's own rows, and with an ending that the audit keeps
+pub gone_sound : (k : Kernel) (x : Session) (rows : List Row) (ended : List Ended) → Sound k → Among x k.sessions → is_active x ≡ true → is_queued x.stage ≡ false → length ended ≤ length k.ended + 1
+    → Left x.txn.session k.sessions k.tree.next k.locks rows → Sound (gone x rows ended k)
+gone_sound k x rows ended sound here active unqueued few left = ends_sound (undone x.txn.number) x k (gone x rows ended k) sound (gone-ends k x rows ended sound here active unqueued few left)
+
+pub rolled_back-sound : (k : Kernel) (x : Session) → Sound k → Among x k.sessions → is_active x ≡ true → is_queued x.stage ≡ false → Sound (rolled_back x k)
+unfolding gone
+rolled_back-sound k x sound here active unqueued =
+    gone_sound k x (released AllRows x.txn.session k.locks) k.ended sound here active unqueued (omega arith) (left_released x.txn.session k.sessions k.tree.next k.locks sound.locks sound.acyclic sound.rows sound.names)
+
+-- the rollback that a deadlock asks, after the short locks of the session went
+pub deadlock_ended-sound : (k : Kernel) (x : Session) (cycle : List Edge) → Sound k → Among x k.sessions → is_active x ≡ true → is_queued x.stage ≡ false → waiting_in x.txn.session k.locks ≡ None
+    → Sound (with_ended x.txn.number cycle (rolled_back x (let_short_go x.txn.session k)))
+unfolding gone
+deadlock_ended-sound k x cycle sound here active unqueued awake =
+    gone_sound k x (released AllRows x.txn.session (released ShortLocks x.txn.session k.locks)) (k.ended ++ record { txn = x.txn.number; cycle = cycle } ∷ []) sound here active unqueued (one_more k.ended)
+    (left_twice x.txn.session k.sessions k.tree.next k.locks sound.locks sound.acyclic awake sound.rows sound.names)
+  where
+    one_more : (xs : List Ended) → length (xs ++ record { txn = x.txn.number; cycle = cycle } ∷ []) ≤ length xs + 1
+    one_more [] = omega arith
+    one_more (y ∷ ys) = let l = one_more ys in omega (arith, l)
