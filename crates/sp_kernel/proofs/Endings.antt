@@ -31,6 +31,8 @@ use Rattle.sp_node.proofs.Changed.{valid_with, entries_of_with}
 use Rattle.sp_granule.specs.Granules.{granules}
 use Rattle.sp_txn.specs.Visible.{is_live, is_visible, record_of, record_for, live, view}
 use Rattle.sp_audit.specs.declared.ended.Ended.{Ended}
+use Rattle.sp_audit.proofs.Serial.{Serial-push}
+use Rattle.sp_rect.specs.Plane.{Rectangle}
 use Rattle.sp_protection.specs.Holding.{Lock, HoldsMode, AllCompatible}
 use Rattle.sp_protection.specs.Replays.{Replays, OneEach}
 use Rattle.sp_protection.proofs.Applying.{rollback-live, rollback_replays}
@@ -143,3 +145,104 @@ deadlock_ended-sound k x cycle sound here active unqueued awake =
     one_more : (xs : List Ended) → length (xs ++ record { txn = x.txn.number; cycle = cycle } ∷ []) ≤ length xs + 1
     one_more [] = omega arith
     one_more (y ∷ ys) = let l = one_more ys in omega (arith, l)
+
+same_id : (a b : ℕ) → Id a ≡ Id b → a ≡ b
+same_id a b e = cc
+
+no_id : (rect : Rectangle) (id : ℕ) → Area rect ≡ Id id → ⊥
+no_id rect id e = cc
+
+pushed : (cs : List Commit) (c : Commit) → length (cs ++ c ∷ []) ≡ length cs + 1
+pushed [] c = refl
+pushed (d ∷ cs) c = let l = pushed cs c in omega (arith, l)
+
+-- the lock that an operation asks on its object covers S there
+object_part : (op : Op) (id : ℕ) → part_of op ≡ Id id → (mode : Mode) × (object_of op ≡ Some (Object id, mode)) × (covers mode S ≡ true)
+object_part (Put r) id e = (X, ap (λ (n : ℕ). Some (Object n, X)) (same_id r.id id e), refl)
+object_part (Drop i) id e = (X, ap (λ (n : ℕ). Some (Object n, X)) (same_id i id e), refl)
+object_part (Set i value) id e = (X, ap (λ (n : ℕ). Some (Object n, X)) (same_id i id e), refl)
+object_part (Get i) id e = (S, ap (λ (n : ℕ). Some (Object n, S)) (same_id i id e), refl)
+object_part (Find rect) id e = absurd (no_id rect id e)
+object_part (Fill rect value) id e = absurd (no_id rect id e)
+object_part (Clear rect) id e = absurd (no_id rect id e)
+
+run_all : (base : List Record) (commits : List Commit) → IsOrdered base → IsOrdered (after_all base commits)
+run_all base [] h = h
+run_all base (c ∷ commits) h = run_all (records_after base c.ops) commits (run_ordered c.ops base h)
+
+after_all-push : (base : List Record) (commits : List Commit) (c : Commit) → after_all base (commits ++ c ∷ []) ≡ records_after (after_all base commits) c.ops
+after_all-push base [] c = refl
+after_all-push base (d ∷ commits) c = after_all-push (records_after base d.ops) commits c
+
+-- the commit of an active session's transaction in a sound kernel
+module _ (k : Kernel) (x : Session) (sound : Sound k) (here : Among x k.sessions) (active : is_active x ≡ true) where
+  locks : List Lock
+  locks = locks_of k.sessions k.locks
+
+  compatible : AllCompatible (locks_of k.sessions k.locks)
+  compatible = locks-compatible k.next_txn (length k.commits) k.sessions k.locks sound.sessions sound.locks
+
+  ordered : IsOrdered (live (entries_in k))
+  ordered = subst IsOrdered (sym sound.current) (run_all k.base k.commits sound.base)
+
+  one_live : OneEach is_live (entries_in k)
+  one_live = one_each is_live record_of (entries_in k) (λ e. refl) (ordered_parts (live (entries_in k)) ordered).1
+
+  one_seen : OneEach (is_visible x.txn.number) (entries_in k)
+  one_seen = one_each (is_visible x.txn.number) (record_for x.txn.number) (entries_in k) (λ e. refl)
+      (ordered_parts (view (entries_in k) x.txn.number) (subst IsOrdered (sound.replays x here active).same_view (run_ordered x.txn.ops (live (entries_in k)) ordered))).1
+
+  -- others replay what they did
+  pub commit-replays : (y : Session) → Among y k.sessions → y.txn.session ≢ x.txn.session → is_active y ≡ true → Replays (map (settled x.txn.number) (entries_in k)) y.txn.number y.txn.ops
+  commit-replays y i other a =
+      commit_undisturbed k.tree (locks_of k.sessions k.locks) y.txn.number x.txn.number (entries_in k) y.txn.ops sound.valid compatible (λ same. numbers-other k x y sound here i other (sym same)) sound.owned one_live one_seen
+      (sound.rectangles y i a) (sound.parts y i a) (sound.replays y i a)
+
+  -- an object that another holds bears no mark of the transaction
+  pub unmarked-object : (y : Session) (op : Op) (id : ℕ) (e : Entry) → Among y k.sessions → y.txn.session ≢ x.txn.session → HoldsObject k.locks y.txn.session op → part_of op ≡ Id id → Among e (entries_in k) → e.id ≡ id → is_marked x.txn.number e ≡ false
+  unmarked-object y op id e i other holds is j same = go (is_marked x.txn.number e) refl
+    where
+      held : HoldsMode (locks_of k.sessions k.locks) y.txn.number (Object id) S
+      held = let p = object_part op id is in
+          let h = row-mode k.sessions k.locks y (Object id) p.0 i (of_held k.locks y.txn.session (record { name = Object id; mode = p.0; duration = ToTheEnd }) (holds (Object id) p.0 p.1)) in
+          record { lock = h.lock; held = h.held; by_txn = h.by_txn; on_name = h.on_name; enough = covers-trans h.lock.mode p.0 S h.enough p.2 }
+
+      go : (b : Bool) → is_marked x.txn.number e ≡ b → b ≡ false
+      go false m = refl
+      go true m = absurd
+          (clash (locks_of k.sessions k.locks) y.txn.number x.txn.number (Object id) S X compatible (λ same. numbers-other k x y sound here i other (sym same)) exclusive-against_shared held
+          (subst (λ (n : ℕ). HoldsMode (locks_of k.sessions k.locks) x.txn.number (Object n) X) same (sound.owned x.txn.number e j m).object))
+
+  pub commit-sight : (y : Session) (op : Op) (left : List Need) → Among y k.sessions → y.txn.session ≢ x.txn.session → y.stage ≡ Planned op left → LeavesSight (settled x.txn.number) (entries_in k) y.txn.number op
+  commit-sight y op left i other at = record {
+    keeps = settled-keeps x.txn.number;
+    sight = λ id e is j same. settled-seen x.txn.number y.txn.number e (unmarked-object y op id e i other (subst (λ (s : Stage). HoldsStage k y s) at (sound.stages y i)).0 is j same);
+    new = λ r n. settled-new x.txn.number y.txn.number r n (numbers-other k x y sound here i other);
+  }
+
+  pub commit-serial : Serial k.base (k.commits ++ placed_commit x k ∷ [])
+  commit-serial =
+      let l = sound.sessions.seen x here in
+      Serial-push k.base k.commits (placed_commit x k) sound.serial refl (omega arith) (subst (λ (rs : List Record). RepliesAsPlain rs x.txn.ops) sound.current (sound.replays x here active).same_replies)
+
+  pub commit-current : live (map (settled x.txn.number) (entries_in k)) ≡ after_all k.base (k.commits ++ placed_commit x k ∷ [])
+  commit-current =
+      commit_shows_view x.txn.number (entries_in k) ∙ sym (sound.replays x here active).same_view ∙ ap (λ (rs : List Record). records_after rs x.txn.ops) sound.current ∙ sym (after_all-push k.base k.commits (placed_commit x k))
+
+  pub length-push : length (k.commits ++ placed_commit x k ∷ []) ≡ length k.commits + 1
+  length-push = pushed k.commits (placed_commit x k)
+
+  -- what the commit adds to the audit, the session was
+  pub commit-counted : (k' : Kernel) → k'.commits ≡ k.commits ++ placed_commit x k ∷ [] → k'.ended ≡ k.ended → length (entries_in k') ≡ length (entries_in k) → k'.tree.next ≡ k.tree.next → k'.next_entry ≡ k.next_entry → k'.next_txn ≡ k.next_txn
+      → ((f : Session → ℕ) → sum_by f (filter is_active k'.sessions) + share f x ≡ sum_by f (filter is_active k.sessions)) → ((y : Session) → Among y k'.sessions → is_active y ≡ true → Among y k.sessions) → Counted k k' x
+  commit-counted k' commits ended entries next next_entry next_txn sums old = record {
+    sums = sums;
+    old = old;
+    endings = rw (commits, ended, active) (let l = length-push in omega (arith, l));
+    kept = rw (commits, active) (let l = sum_by_push (λ (c : Commit). length c.ops) k.commits (placed_commit x k) in omega (arith, l));
+    told = rw (commits, active) (let l = sum_by_push (λ (c : Commit). records_told c.ops) k.commits (placed_commit x k) in omega (arith, l));
+    entries = entries;
+    next = next;
+    next_entry = next_entry;
+    next_txn = next_txn;
+  }
