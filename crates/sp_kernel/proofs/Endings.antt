@@ -24,7 +24,9 @@ use Rattle.sp_locks.specs.Table.{released}
 use Rattle.sp_waits.specs.declared.edge.Edge.{Edge}
 use Rattle.sp_node.specs.declared.node.Entry.{Entry}
 use Rattle.sp_node.specs.Among.{Among}
-use Rattle.sp_node.specs.Change.{table_with, Keeps}
+use Rattle.sp_node.specs.declared.node.Node.{Node}
+use Rattle.sp_node.specs.declared.node.Node.TheVariants.{Leaf, Inner}
+use Rattle.sp_node.specs.Change.{node_with, nodes_with, table_with, Keeps}
 use Rattle.sp_node.specs.Marks.{is_marked, is_done, settled, undone}
 use Rattle.sp_node.specs.Table.{Table, IsValid, entries_of}
 use Rattle.sp_node.proofs.Changed.{valid_with, entries_of_with}
@@ -47,9 +49,9 @@ use Rattle.sp_kernel.specs.Refusals.{under_way, kept_operations}
 use Rattle.sp_kernel.specs.Moves.{newly_dead, with_ended, let_short_go, rolled_back, placed_commit, committed}
 use Rattle.sp_kernel.specs.Plans.{object_of}
 use Rattle.sp_kernel.specs.Stepped.{records_told}
-use Rattle.sp_kernel.specs.Soundness.{HoldsObject, HoldsStage, DeadListed, is_queued, Sound}
-use Rattle.sp_kernel.proofs.Sessions.{one-keyed, of_without, among-without}
-use Rattle.sp_kernel.proofs.Holding.{row-mode, of_held, locks-compatible}
+use Rattle.sp_kernel.specs.Soundness.{MayHave, HoldsObject, HoldsStage, DeadListed, is_queued, Sound}
+use Rattle.sp_kernel.proofs.Sessions.{one-session, one-keyed, of_without, among-without}
+use Rattle.sp_kernel.proofs.Holding.{rows-stay, row-mode, of_held, locks-compatible}
 use Rattle.sp_kernel.proofs.Counting.{share, without-sum}
 use Rattle.sp_kernel.proofs.Dead.{StayDead, stay_dead-map, dead_grows}
 use Rattle.sp_kernel.proofs.Planned.{LeavesSight}
@@ -246,3 +248,105 @@ module _ (k : Kernel) (x : Session) (sound : Sound k) (here : Among x k.sessions
     next_entry = next_entry;
     next_txn = next_txn;
   }
+
+committed-ends : (k : Kernel) (x : Session) → Sound k → Among x k.sessions → is_active x ≡ true → is_queued x.stage ≡ false → Ends (settled x.txn.number) x k (committed x k)
+committed-ends k x sound here active unqueued = record {
+  here = here;
+  marks = record { tree = refl; next_entry = refl };
+  keeps = settled-keeps x.txn.number;
+  marked = λ t e i m. settled-others x.txn.number t e m;
+  free = λ t e h. settled-free x.txn.number t e h;
+  sight = commit-sight k x sound here active;
+  replays = commit-replays k x sound here active;
+  base = refl;
+  serial = commit-serial k x sound here active;
+  current = commit-current k x sound here active;
+  locks = left.locks;
+  acyclic = left.acyclic;
+  rows = rows-without x.txn.session k.sessions (released AllRows x.txn.session k.locks) left.others left.owned;
+  names = left.names;
+  held = λ y i other. left.held y.txn.session other;
+  awaits = λ y op i other h. left.awaits y.txn.session op other h;
+  next_txn = refl;
+  sessions = sound-without k.next_txn (length k.commits) (length (k.commits ++ placed_commit x k ∷ [])) x.txn.session k.sessions (let l = length-push k x sound here active in omega (arith, l)) sound.sessions;
+  stay = λ y i other. among-without x.txn.session k.sessions y i other;
+  was = λ y i. inl (of_without x.txn.session k.sessions y i);
+  dead = dead-with k (settled x.txn.number) sound (settled-keeps x.txn.number) (settled-done x.txn.number);
+  queued = queue-without x k.sessions k.queue k.flight k.calls sound.sessions.ascending here unqueued sound.queued;
+  counts = counts_left k (committed x k) x sound.counts
+      (commit-counted k x sound here active (committed x k) refl refl (ap length (entries_of_with (settled x.txn.number) (settled-keeps x.txn.number) k.tree) ∙ length-map (entries_in k) (settled x.txn.number)) refl refl refl
+      (λ f. without-sum f k.sessions sound.sessions.ascending x here) (λ y i a. (of_without x.txn.session k.sessions y i).0));
+}
+  where
+    left : Left x.txn.session k.sessions k.tree.next k.locks (released AllRows x.txn.session k.locks)
+    left = left_released x.txn.session k.sessions k.tree.next k.locks sound.locks sound.acyclic sound.rows sound.names
+
+-- a commit of an idle session keeps a kernel sound
+pub committed-sound : (k : Kernel) (x : Session) → Sound k → Among x k.sessions → is_active x ≡ true → is_queued x.stage ≡ false → Sound (committed x k)
+committed-sound k x sound here active unqueued = ends_sound (settled x.txn.number) x k (committed x k) sound (committed-ends k x sound here active unqueued)
+
+-- a change that changes nothing leaves the tree
+same_entries : (es : List Entry) → map (λ e. e) es ≡ es
+same_entries [] = refl
+same_entries (e ∷ es) = ap (λ (xs : List Entry). e ∷ xs) (same_entries es)
+
+same_node : (n : Node) → node_with (λ e. e) n ≡ n
+same_node (Leaf es) = ap Leaf (same_entries es)
+same_node (Inner cs) = refl
+
+same_nodes : (ns : List (ℕ × Node)) → nodes_with (λ e. e) ns ≡ ns
+same_nodes [] = refl
+same_nodes (n ∷ ns) = λ i. (n.0, same_node n.1 i) ∷ same_nodes ns i
+
+pub same_table : (t : Table) → table_with (λ e. e) t ≡ t
+same_table t = ap (λ (ns : List (ℕ × Node)). record { shape = t.shape; root = t.root; next = t.next; nodes = ns }) (same_nodes t.nodes)
+
+told-ends : (k : Kernel) (x : Session) → Sound k → Among x k.sessions → x.stage ≡ Placed → Ends (λ e. e) x k (record k { sessions = sessions_without x.txn.session k.sessions })
+told-ends k x sound here placed = record {
+  here = here;
+  marks = record { tree = sym (same_table k.tree); next_entry = refl };
+  keeps = record { number = λ e. refl; id = λ e. refl; rect = λ e. refl };
+  marked = λ t e i m. (m, λ is. let a = sound.active t e i m in
+      true≢false (sym a.2 ∙ ap is_active (one-keyed (λ (z : Session). z.txn.number) k.sessions sound.sessions.numbers a.0 x a.1 here (a.3 ∙ is)) ∙ ap is_active_stage placed));
+  free = λ t e h. h;
+  sight = λ y op left i other at. record { keeps = record { number = λ e. refl; id = λ e. refl; rect = λ e. refl }; sight = λ id e is j same. refl; new = λ r n. refl };
+  replays = λ y i other a. subst (λ (es : List Entry). Replays es y.txn.number y.txn.ops) (sym (same_entries (entries_in k))) (sound.replays y i a);
+  base = refl;
+  serial = sound.serial;
+  current = ap live (same_entries (entries_in k)) ∙ sound.current;
+  locks = sound.locks;
+  acyclic = sound.acyclic;
+  rows = rows-without x.txn.session k.sessions k.locks none sound.rows;
+  names = sound.names;
+  held = λ y i other. rows-stay y.txn.session k.locks k.locks (λ row j w. j);
+  awaits = λ y op i other h. h;
+  next_txn = refl;
+  sessions = sound-without k.next_txn (length k.commits) (length k.commits) x.txn.session k.sessions (omega arith) sound.sessions;
+  stay = λ y i other. among-without x.txn.session k.sessions y i other;
+  was = λ y i. inl (of_without x.txn.session k.sessions y i);
+  dead = subst (DeadListed k.dead) (sym (same_entries (entries_in k))) sound.dead;
+  queued = queue-without x k.sessions k.queue k.flight k.calls sound.sessions.ascending here (ap is_queued placed) sound.queued;
+  counts = counts_left k (record k { sessions = sessions_without x.txn.session k.sessions }) x sound.counts (record {
+    sums = λ f. without-sum f k.sessions sound.sessions.ascending x here;
+    old = λ y i a. (of_without x.txn.session k.sessions y i).0;
+    endings = more (length k.commits + length k.ended) (share (λ y. 1) x);
+    kept = more (kept_operations k.commits) (share (λ y. length y.txn.ops + under_way y.stage) x);
+    told = more (sum_by (λ c. records_told c.ops) k.commits) (share (λ y. records_told y.txn.ops) x);
+    entries = refl;
+    next = refl;
+    next_entry = refl;
+    next_txn = refl;
+  });
+}
+  where
+    more : (a b : ℕ) → a ≤ a + b
+    more a b = omega arith
+
+    none : (row : Row) → Among row k.locks → row.session ≢ x.txn.session
+    none row i is =
+        let o = sound.rows row i in
+        subst (λ (s : Stage). MayHave s row) (ap (λ (z : Session). z.stage) (one-session k.sessions sound.sessions.ascending o.owner x o.among here (o.is_owner ∙ is)) ∙ placed) o.may
+
+-- the news of its place lets go of a session
+pub told-sound : (k : Kernel) (x : Session) → Sound k → Among x k.sessions → x.stage ≡ Placed → Sound (record k { sessions = sessions_without x.txn.session k.sessions })
+told-sound k x sound here placed = ends_sound (λ e. e) x k (record k { sessions = sessions_without x.txn.session k.sessions }) sound (told-ends k x sound here placed)
