@@ -3,3 +3,4 @@ pub mod Holding
 pub mod Released
 pub mod Locking
 pub mod Counting
+pub mod Restaging
