@@ -4,3 +4,5 @@ pub mod Released
 pub mod Locking
 pub mod Counting
 pub mod Restaging
+pub mod Limits
+pub mod Awake
