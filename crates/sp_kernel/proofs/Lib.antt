@@ -6,3 +6,5 @@ pub mod Counting
 pub mod Restaging
 pub mod Limits
 pub mod Awake
+pub mod Turned
+pub mod Staging
