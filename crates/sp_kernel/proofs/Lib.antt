@@ -9,3 +9,8 @@ pub mod Locking
 pub mod Counting
 pub mod Left
 pub mod Endings
+pub mod Restaging
+pub mod Limits
+pub mod Awake
+pub mod Turned
+pub mod Staging
