@@ -21,7 +21,7 @@ use Rattle.sp_kernel.specs.declared.session.Stage.{Stage}
 use Rattle.sp_kernel.specs.declared.session.Stage.TheVariants.{Idle, Started, NameWait, Named, NeedWait, Planned, Queued, Placed}
 use Rattle.sp_kernel.specs.State.{Kernel, entries_in, is_active, is_active_stage, is_session, session_at, at_stage, staged, locks_of}
 use Rattle.sp_kernel.specs.Refusals.{open_transactions, open_operations, kept_operations, under_way, most_operations}
-use Rattle.sp_kernel.specs.Moves.{newly_dead, with_stage, placed_commit, placed_found, placed_each, placed_all, taken_off}
+use Rattle.sp_kernel.specs.Moves.{dead_among, newly_dead, with_stage, placed_commit, placed_found, placed_each, placed_all, taken_off}
 use Rattle.sp_kernel.specs.Stepped.{records_told}
 use Rattle.sp_kernel.specs.Soundness.{AreAscending, SoundSessions, RowsOwned, MayHave, HasOwner, SharesLatch, HoldsObject, HoldsStage, DeadListed, is_queued, QueueSound, WithinCounts, Sound}
 use Rattle.sp_kernel.proofs.Sessions.{one-session, found-among, none-among, changed-among, others-among, Fate, Changes, Stays, fate, of_change}
@@ -254,3 +254,159 @@ module _ (k : Kernel) (x : Session) (sound : Sound k) (here : Among x k.sessions
 
       ones : sum_by (λ y. 1) (filter is_active (staged x.txn.session Queued k.sessions)) ≤ sum_by (λ y. 1) (filter is_active k.sessions)
       ones = sums (λ y. 1) (omega arith)
+
+abbrev pub calls_for : List ℕ → ℕ
+calls_for [] = 0
+calls_for (n ∷ ns) = 1
+
+-- a kernel while the batch takes its places, as if the rest were the batch and the dead list had what died since k0
+abbrev pub as_if : Kernel → List ℕ → Kernel → Kernel
+as_if k0 rest k = listed_anew (k0.dead ++ newly_dead (entries_in k0) (entries_in k)) k.queue rest (calls_for rest) k
+
+calls_fit : (flight : List ℕ) → (calls_for flight < 4) × (flight ≢ [] → 1 ≤ calls_for flight) × (flight ≡ [] → calls_for flight ≡ 0)
+calls_fit [] = (omega arith, λ h. absurd (h refl), λ h. refl)
+calls_fit (n ∷ ns) = (omega arith, λ h. omega arith, λ h. absurd (some h))
+  where
+    some : n ∷ ns ≡ [] → ⊥
+    some h = cc
+
+-- one session of the batch has its place
+queue-placed : (x : Session) (xs : List Session) (queue rest : List ℕ) (calls : ℕ) → AreAscending xs → Among x xs → QueueSound xs queue (x.txn.session ∷ rest) calls → QueueSound (staged x.txn.session Placed xs) queue rest (calls_for rest)
+queue-placed x xs queue rest calls ascending here h = record {
+  once = IsDistinct-tail nat_eq x.txn.session (rest ++ queue) h.once;
+  there = λ y i q. let o = of_change x.txn.session (at_stage Placed) xs y i in there o.old y o.stood o.how q;
+  back = λ n i. let b = h.back n (inr i) in
+      (b.0, others-among x.txn.session (at_stage Placed) xs b.0 b.1 (λ e. distinct-out x.txn.session (rest ++ queue) h.once (subst (λ m. Among m (rest ++ queue)) (sym b.2 ∙ e) i)), b.2, b.3);
+  calls_few = (calls_fit rest).0;
+  begun = (calls_fit rest).1;
+  none = (calls_fit rest).2;
+}
+  where
+    there : (z y : Session) → Among z xs → Fate x.txn.session (at_stage Placed) z y → is_queued y.stage ≡ true → Among y.txn.session (rest ++ queue)
+    there z _ j (Changes e) q = absurd (true≢false (sym q))
+    there z _ j (Stays e) q = other (h.there z j q)
+      where
+        other : (z.txn.session ≡ x.txn.session) ⊎ Among z.txn.session (rest ++ queue) → Among z.txn.session (rest ++ queue)
+        other (inl s) = absurd (e s)
+        other (inr i) = i
+
+queued-active : (stage : Stage) → is_queued stage ≡ true → is_active_stage stage ≡ true
+queued-active Queued q = refl
+queued-active Idle q = refl
+queued-active (Started op) q = refl
+queued-active (NameWait op) q = refl
+queued-active (Named op) q = refl
+queued-active (NeedWait op) q = refl
+queued-active (Planned op left) q = refl
+queued-active Placed q = absurd (true≢false (sym q))
+
+-- a commit of the batch has its place
+abbrev pub placed : Session → Kernel → Kernel
+placed x k = placed_found (Some x) k
+
+module _ (k0 k : Kernel) (x : Session) (rest : List ℕ) (listed : DeadListed k0.dead (entries_in k0)) (stay : StayDead (entries_in k0) (entries_in k)) (sound : Sound (as_if k0 (x.txn.session ∷ rest) k)) (here : Among x k.sessions) (active : is_active x ≡ true) where
+  entries-placed : entries_in (placed x k) ≡ map (settled x.txn.number) (entries_in k)
+  entries-placed = entries_of_with (settled x.txn.number) (settled-keeps x.txn.number) k.tree
+
+  pub stay-placed : StayDead (entries_in k0) (entries_in (placed x k))
+  stay-placed n i =
+      subst (λ (es : List Entry). Among n (dead_among es)) (sym entries-placed)
+      (stay_dead-map (settled x.txn.number) (entries_in k) (λ e. refl) (settled-done x.txn.number) n (stay n i))
+
+  left : Left x.txn.session k.sessions k.tree.next k.locks (released AllRows x.txn.session k.locks)
+  left = left_released x.txn.session k.sessions k.tree.next k.locks sound.locks sound.acyclic sound.rows sound.names
+
+  rows-placed : RowsOwned (staged x.txn.session Placed k.sessions) (released AllRows x.txn.session k.locks)
+  rows-placed row i = let o = left.owned row i in
+      record { owner = o.owner; among = others-among x.txn.session (at_stage Placed) k.sessions o.owner o.among (λ e. left.others row i (sym o.is_owner ∙ e)); is_owner = o.is_owner; may = o.may }
+
+  sessions-placed : SoundSessions k.next_txn (length (k.commits ++ placed_commit x k ∷ [])) (staged x.txn.session Placed k.sessions)
+  sessions-placed = let h = sessions-staged k.next_txn (length k.commits) x.txn.session Placed k.sessions sound.sessions in record {
+    ascending = h.ascending;
+    numbers = h.numbers;
+    used = h.used;
+    seen = λ y i. let l = h.seen y i in let m = length-push (as_if k0 (x.txn.session ∷ rest) k) x sound here active in omega (arith, l, m);
+    searches = h.searches;
+  }
+
+  was : (z y : Session) → Among z k.sessions → Fate x.txn.session (at_stage Placed) z y → (Among y k.sessions × (y.txn.session ≢ x.txn.session)) ⊎ (y.stage ≡ Placed)
+  was z _ j (Changes e) = inr refl
+  was z _ j (Stays e) = inl (j, e)
+
+  old : (z y : Session) → Among z k.sessions → Fate x.txn.session (at_stage Placed) z y → is_active y ≡ true → Among y k.sessions
+  old z _ j (Changes e) a = absurd (true≢false (sym a))
+  old z _ j (Stays e) a = j
+
+  dead-placed : DeadListed (k0.dead ++ newly_dead (entries_in k0) (entries_in (placed x k))) (map (settled x.txn.number) (entries_in k))
+  dead-placed =
+      subst (λ (es : List Entry). DeadListed (k0.dead ++ newly_dead (entries_in k0) (entries_in (placed x k))) es) entries-placed
+      (dead_grows k0.dead (entries_in k0) (entries_in (placed x k)) (valid_with (settled x.txn.number) (settled-keeps x.txn.number) k.tree sound.valid).distinct_entries stay-placed listed)
+
+  sums-placed : (f : Session → ℕ) → sum_by f (filter is_active (staged x.txn.session Placed k.sessions)) + share f x ≡ sum_by f (filter is_active k.sessions)
+  sums-placed f = let c = change-sum f (at_stage Placed) k.sessions sound.sessions.ascending x here in omega (arith, c)
+
+  placed-ends : Ends (settled x.txn.number) x (as_if k0 (x.txn.session ∷ rest) k) (as_if k0 rest (placed x k))
+  placed-ends = record {
+    here = here;
+    marks = record { tree = refl; next_entry = refl };
+    keeps = settled-keeps x.txn.number;
+    marked = λ t e i m. settled-others x.txn.number t e m;
+    free = λ t e h. settled-free x.txn.number t e h;
+    sight = commit-sight (as_if k0 (x.txn.session ∷ rest) k) x sound here active;
+    replays = commit-replays (as_if k0 (x.txn.session ∷ rest) k) x sound here active;
+    base = refl;
+    serial = commit-serial (as_if k0 (x.txn.session ∷ rest) k) x sound here active;
+    current = commit-current (as_if k0 (x.txn.session ∷ rest) k) x sound here active;
+    locks = left.locks;
+    acyclic = left.acyclic;
+    rows = rows-placed;
+    names = left.names;
+    held = λ y i other. left.held y.txn.session other;
+    awaits = λ y op i other h. left.awaits y.txn.session op other h;
+    next_txn = refl;
+    sessions = sessions-placed;
+    stay = λ y i other. others-among x.txn.session (at_stage Placed) k.sessions y i other;
+    was = λ y i. let o = of_change x.txn.session (at_stage Placed) k.sessions y i in was o.old y o.stood o.how;
+    dead = dead-placed;
+    queued = queue-placed x k.sessions k.queue rest 1 sound.sessions.ascending here sound.queued;
+    counts = counts_left (as_if k0 (x.txn.session ∷ rest) k) (as_if k0 rest (placed x k)) x sound.counts
+        (commit-counted (as_if k0 (x.txn.session ∷ rest) k) x sound here active (as_if k0 rest (placed x k)) refl refl (ap length entries-placed ∙ length-map (entries_in k) (settled x.txn.number)) refl refl refl
+        sums-placed (λ y i a. let o = of_change x.txn.session (at_stage Placed) k.sessions y i in old o.old y o.stood o.how a));
+  }
+
+  pub placed-sound : Sound (as_if k0 rest (placed x k))
+  placed-sound = ends_sound (settled x.txn.number) x (as_if k0 (x.txn.session ∷ rest) k) (as_if k0 rest (placed x k)) sound placed-ends
+
+-- the first of the batch takes its place
+place_next : (k0 k : Kernel) (s : ℕ) (rest : List ℕ) → DeadListed k0.dead (entries_in k0) → StayDead (entries_in k0) (entries_in k) → Sound (as_if k0 (s ∷ rest) k)
+    → Sound (as_if k0 rest (placed_found (session_at s k.sessions) k)) × StayDead (entries_in k0) (entries_in (placed_found (session_at s k.sessions) k))
+place_next k0 k s rest listed stay sound = go (session_at s k.sessions) refl
+  where
+    first : (x : Session) × Among x k.sessions × (x.txn.session ≡ s) × (is_queued x.stage ≡ true)
+    first = sound.queued.back s (inl refl)
+
+    go : (o : Option Session) → session_at s k.sessions ≡ o → Sound (as_if k0 rest (placed_found o k)) × StayDead (entries_in k0) (entries_in (placed_found o k))
+    go None e = absurd (none-among s k.sessions first.0 e first.1 first.2)
+    go (Some x) e =
+        let f = found-among s k.sessions x e in
+        let same : first.0 ≡ x = one-session k.sessions sound.sessions.ascending first.0 x first.1 f.0 (first.2 ∙ sym f.1) in
+        let active : is_active x ≡ true = queued-active x.stage (subst (λ (z : Session). is_queued z.stage ≡ true) same first.3) in
+        let sound' : Sound (as_if k0 (x.txn.session ∷ rest) k) = subst (λ (n : ℕ). Sound (as_if k0 (n ∷ rest) k)) (sym f.1) sound in
+        (placed-sound k0 k x rest listed stay sound' f.0 active, stay-placed k0 k x rest listed stay sound' f.0 active)
+
+each_placed : (k0 k : Kernel) (batch : List ℕ) → DeadListed k0.dead (entries_in k0) → StayDead (entries_in k0) (entries_in k) → Sound (as_if k0 batch k) → Sound (as_if k0 [] (placed_each batch k))
+each_placed k0 k [] listed stay sound = sound
+each_placed k0 k (s ∷ rest) listed stay sound = let p = place_next k0 k s rest listed stay sound in each_placed k0 (placed_found (session_at s k.sessions) k) rest listed p.1 p.0
+
+-- once the batch is on the disk each of its commits takes its place
+pub placed_all-sound : (k : Kernel) → Sound k → Sound (placed_all k)
+placed_all-sound k sound = each_placed k k k.flight sound.dead (λ n i. i) (listed-sound k (k.dead ++ newly_dead (entries_in k) (entries_in k)) k.queue k.flight (calls_for k.flight) sound
+    (dead_grows k.dead (entries_in k) (entries_in k) sound.valid.distinct_entries (λ n i. i) sound.dead)
+    (record {
+      once = sound.queued.once;
+      there = sound.queued.there;
+      back = sound.queued.back;
+      calls_few = (calls_fit k.flight).0;
+      begun = (calls_fit k.flight).1;
+      none = (calls_fit k.flight).2;
+    }))
