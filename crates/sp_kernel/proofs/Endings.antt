@@ -168,7 +168,7 @@ object_part (Find rect) id e = absurd (no_id rect id e)
 object_part (Fill rect value) id e = absurd (no_id rect id e)
 object_part (Clear rect) id e = absurd (no_id rect id e)
 
-run_all : (base : List Record) (commits : List Commit) → IsOrdered base → IsOrdered (after_all base commits)
+pub run_all : (base : List Record) (commits : List Commit) → IsOrdered base → IsOrdered (after_all base commits)
 run_all base [] h = h
 run_all base (c ∷ commits) h = run_all (records_after base c.ops) commits (run_ordered c.ops base h)
 

@@ -15,3 +15,4 @@ pub mod Awake
 pub mod Turned
 pub mod Staging
 pub mod Flushing
+pub mod Cleaning
