@@ -16,3 +16,4 @@ pub mod Turned
 pub mod Staging
 pub mod Flushing
 pub mod Cleaning
+pub mod Ends

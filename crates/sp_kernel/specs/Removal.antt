@@ -1,5 +1,5 @@
 -- What the kernel rests on of the removal of an entry.
-use Rattle.std.specs.Prelude.{◌≡◌, ◌≢◌, ℕ, ◌+◌, ◌≤◌, ◌^◌}
+use Rattle.std.specs.Prelude.{◌≢◌, ℕ, ◌+◌, ◌<◌, ◌≤◌, ◌^◌}
 use Rattle.sp_node.specs.declared.node.Entry.{Entry}
 use Rattle.sp_node.specs.Among.{Among}
 use Rattle.sp_node.specs.Look.{IsAscending}
@@ -13,3 +13,7 @@ pub record KeepsOthers (t : Table) (number : ℕ) (t' : Table) : Type 0 where
   pub few : t'.next ≤ t.next + 2 ^ 32
   pub back : (e : Entry) → Among e (entries_of t') → Among e (entries_of t) × (e.number ≢ number)
   pub there : (e : Entry) → Among e (entries_of t) → e.number ≢ number → Among e (entries_of t')
+
+-- a removal from a valid tree whose node numbers are within their limit does so
+abbrev pub RemovesOne : (Table → ℕ → Table → Type 0) → Type 0
+RemovesOne IsRemoved = (t : Table) (number : ℕ) (t' : Table) → IsValid t → IsAscending t.nodes → t.next < 2 ^ 63 + 2 ^ 32 → IsRemoved t number t' → KeepsOthers t number t'
