@@ -8,3 +8,4 @@ pub mod Limits
 pub mod Awake
 pub mod Turned
 pub mod Staging
+pub mod Beginning
