@@ -9,3 +9,4 @@ pub mod Awake
 pub mod Turned
 pub mod Staging
 pub mod Beginning
+pub mod Requesting
