@@ -1,8 +1,14 @@
 pub mod Sessions
 pub mod Holding
+pub mod Planned
+pub mod Leaving
+pub mod Dead
+pub mod Settling
 pub mod Released
 pub mod Locking
 pub mod Counting
+pub mod Left
+pub mod Endings
 pub mod Restaging
 pub mod Limits
 pub mod Awake
