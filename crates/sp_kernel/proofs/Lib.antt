@@ -16,3 +16,4 @@ pub mod Turned
 pub mod Staging
 pub mod Beginning
 pub mod Requesting
+pub mod Asking
