@@ -1,5 +1,5 @@
 -- The events that ask a lock keep a kernel sound: the name of an operation, and its needs one after the other.
-use Rattle.std.proofs.Common.{◌≡◌, ◌≢◌, ◌⊎◌, ℕ, zero, suc, ◌+◌, ◌<◌, ◌≤◌, Bool, true, false, List, [], ◌∷◌, map, Option, None, Some, refl, sym, ap, ◌∙◌, subst, inl, inr, true≢false, arith}
+use Rattle.std.proofs.Common.{◌≡◌, ◌≢◌, ◌⊎◌, ℕ, zero, suc, ◌<◌, ◌≤◌, Bool, true, false, List, ◌∷◌, map, Option, None, Some, refl, sym, ap, ◌∙◌, subst, inl, inr, true≢false, arith}
 use Rattle.sp_rect.specs.Plane.{Rectangle}
 use Rattle.sp_rect.specs.declared.operation.Op.{Op}
 use Rattle.sp_rect.specs.declared.operation.Op.TheVariants.{Put, Drop, Set, Get, Find, Fill, Clear}
@@ -8,10 +8,10 @@ use Rattle.sp_locks.specs.declared.row.Name.{Name}
 use Rattle.sp_locks.specs.declared.row.Name.TheVariants.{Granule as OnGranule, Object}
 use Rattle.sp_locks.specs.declared.row.Row.{Row}
 use Rattle.sp_locks.specs.declared.row.Duration.{Duration}
-use Rattle.sp_locks.specs.declared.row.Duration.TheVariants.{Commit, Short}
+use Rattle.sp_locks.specs.declared.row.Duration.TheVariants.{Commit}
 use Rattle.sp_locks.specs.declared.row.Scope.TheVariants.{ShortLocks}
 use Rattle.sp_locks.specs.declared.needs.Need.{Need}
-use Rattle.sp_locks.specs.Rows.{is_short, waiting_in}
+use Rattle.sp_locks.specs.Rows.{waiting_in}
 use Rattle.sp_locks.specs.Table.{row_of, with_row_on, released}
 use Rattle.sp_locks.proofs.Keeping.{waiting-stays}
 use Rattle.sp_node.specs.declared.node.Entry.{Entry}
@@ -27,10 +27,10 @@ use Rattle.sp_protection.proofs.Leaves.{among_map, from_map}
 use Rattle.sp_kernel.specs.declared.session.Session.{Session}
 use Rattle.sp_kernel.specs.declared.session.Stage.{Stage}
 use Rattle.sp_kernel.specs.declared.session.Stage.TheVariants.{Idle, Started, NameWait, Named, NeedWait, Planned, Queued, Placed}
-use Rattle.sp_kernel.specs.State.{Kernel, entries_in, is_active, is_active_stage, session_at, at_stage, staged}
+use Rattle.sp_kernel.specs.State.{Kernel, entries_in, is_active_stage, session_at, at_stage, staged}
 use Rattle.sp_kernel.specs.Refusals.{under_way}
 use Rattle.sp_kernel.specs.Moves.{Requests, IsGranted, HasToWait, ClosesCycle}
-use Rattle.sp_kernel.specs.Plans.{object_of, HasNeeds, Stays, Adds, is_held, is_covered}
+use Rattle.sp_kernel.specs.Plans.{object_of, HasNeeds, Stays, Adds, is_held}
 use Rattle.sp_kernel.specs.Soundness.{MayHave, SharesLatch, HoldsObject, AwaitsObject, is_met, IsPlanned, HoldsStage, is_queued, Sound}
 use Rattle.sp_kernel.proofs.Sessions.{found-among}
 use Rattle.sp_kernel.proofs.Holding.{in-among, to_held, to_met, StayMet, met-held, held-stays, met-stays, object-stays, released-short}

@@ -1,20 +1,17 @@
 -- A begin keeps a kernel sound.
-use Rattle.std.proofs.Common.{◌≡◌, ◌≢◌, ◌⊎◌, ℕ, ◌+◌, ◌<◌, ◌≤◌, Bool, true, false, not, cond, ◌&&◌, ◌||◌, List, [], ◌∷◌, ◌++◌, map, filter, Option, None, Some, length, nat_eq, refl, sym, ap, ◌∙◌, subst, inl, inr, true≢false, arith}
+use Rattle.std.proofs.Common.{◌≡◌, ◌≢◌, ◌⊎◌, ℕ, ◌+◌, ◌<◌, ◌≤◌, Bool, true, false, not, cond, ◌&&◌, ◌||◌, List, [], ◌∷◌, ◌++◌, map, filter, None, length, nat_eq, refl, sym, ap, ◌∙◌, subst, inl, inr, true≢false, arith}
 use Rattle.std.specs.Prelude.{nat_lt}
 use Rattle.std.specs.List.{AllByRecursion, IsDistinct, sum_by}
 use Rattle.std.proofs.lemmas.Bool.Decides.{nat_tests}
 use Rattle.std.proofs.lemmas.Map.Keys.{IsDistinct-head, IsDistinct-tail, IsDistinct-cons}
-use Rattle.sp_rect.specs.declared.record.Record.{Record}
 use Rattle.sp_rect.specs.declared.operation.Answered.{Answered}
-use Rattle.sp_rect.specs.Serial.{records_after, RepliesAsPlain}
 use Rattle.sp_rect.specs.declared.operation.Op.{Op}
-use Rattle.sp_locks.specs.declared.row.Row.{Row}
 use Rattle.sp_locks.specs.declared.needs.Need.{Need}
 use Rattle.sp_node.specs.declared.marks.Draft.{Draft}
 use Rattle.sp_node.specs.declared.marks.Draft.TheVariants.{None as NoDraft, Of}
 use Rattle.sp_node.specs.declared.node.Entry.{Entry}
 use Rattle.sp_node.specs.Among.{Among}
-use Rattle.sp_node.specs.Marks.{is_committed, is_made_by, is_ended_by, is_done, is_draft_of, drafted, is_marked}
+use Rattle.sp_node.specs.Marks.{is_committed, is_made_by, is_ended_by, is_done, is_draft_of, drafted}
 use Rattle.sp_granule.specs.Granules.{granules}
 use Rattle.sp_txn.specs.Visible.{is_live, is_visible, record_of, record_for, sorted, live, view}
 use Rattle.sp_protection.specs.Replays.{Replays, HoldsParts, HasRectangles}
@@ -27,10 +24,10 @@ use Rattle.sp_kernel.specs.State.{Kernel, entries_in, is_active, with_session, s
 use Rattle.sp_kernel.specs.Refusals.{open_transactions, open_operations, kept_operations, most_transactions, most_endings, most_operations, most_history, first_unused, under_way, turned_away}
 use Rattle.sp_kernel.specs.Moves.{begun}
 use Rattle.sp_kernel.specs.Plans.{HasNeeds, Stays, Adds}
-use Rattle.sp_kernel.specs.Stepped.{records_told, kept_records, most_records_told}
-use Rattle.sp_kernel.specs.Soundness.{AreAscending, SoundSessions, SharesLatch, LatchShared, HoldsObject, HoldsStage, is_queued, WithinCounts, Sound}
-use Rattle.sp_kernel.proofs.Sessions.{number-apart, none-among, of_with, among-with}
-use Rattle.sp_kernel.proofs.Holding.{HoldsStill, StayThere, rows-stay, met-held, locks-still, parts-still, marks_owned-still}
+use Rattle.sp_kernel.specs.Stepped.{records_told, most_records_told}
+use Rattle.sp_kernel.specs.Soundness.{AreAscending, SharesLatch, HoldsObject, HoldsStage, is_queued, Sound}
+use Rattle.sp_kernel.proofs.Sessions.{none-among, of_with, among-with}
+use Rattle.sp_kernel.proofs.Holding.{HoldsStill, rows-stay, met-held, locks-still, parts-still, marks_owned-still}
 use Rattle.sp_kernel.proofs.Counting.{length-sum, with-sum}
 use Rattle.sp_kernel.proofs.Turned.{MayBegin, may_begin}
 

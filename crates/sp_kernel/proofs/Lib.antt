@@ -17,3 +17,4 @@ pub mod Staging
 pub mod Beginning
 pub mod Requesting
 pub mod Asking
+pub mod UpToLast

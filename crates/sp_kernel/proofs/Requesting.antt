@@ -1,17 +1,15 @@
 -- A request of a lock keeps a kernel sound, whether it is granted or has to wait.
-use Rattle.std.proofs.Common.{◌≡◌, ◌≢◌, ◌⊎◌, ℕ, ◌+◌, ◌<◌, ◌≤◌, Bool, true, false, not, cond, ◌&&◌, ◌||◌, if◌then◌else◌, List, [], ◌∷◌, ◌++◌, map, filter, Option, None, Some, length, nat_eq, refl, sym, ap, ◌∙◌, subst, inl, inr, true≢false, arith, append-nil, append_assoc}
-use Rattle.std.specs.List.{list_any}
+use Rattle.std.proofs.Common.{◌≡◌, ◌≢◌, ◌⊎◌, ℕ, ◌<◌, ◌≤◌, Bool, true, false, not, ◌&&◌, ◌||◌, if◌then◌else◌, List, [], ◌∷◌, ◌++◌, filter, None, nat_eq, refl, sym, ap, ◌∙◌, subst, inl, inr, true≢false, arith, append-nil, append_assoc}
 use Rattle.sp_list.specs.Emptiness.{is_empty}
-use Rattle.sp_rect.specs.declared.operation.Op.{Op}
 use Rattle.sp_locks.specs.declared.mode.Mode.{Mode}
 use Rattle.sp_locks.specs.declared.row.Name.{Name}
-use Rattle.sp_locks.specs.declared.row.Name.TheVariants.{Granule as OnGranule, Object}
+use Rattle.sp_locks.specs.declared.row.Name.TheVariants.{Granule as OnGranule}
 use Rattle.sp_locks.specs.declared.row.Row.{Row}
 use Rattle.sp_locks.specs.declared.row.Duration.{Duration}
-use Rattle.sp_locks.specs.declared.row.Duration.TheVariants.{Commit, Short}
-use Rattle.sp_locks.specs.declared.row.Scope.TheVariants.{ShortLocks, AllRows}
+use Rattle.sp_locks.specs.declared.row.Duration.TheVariants.{Short}
+use Rattle.sp_locks.specs.declared.row.Scope.TheVariants.{ShortLocks}
 use Rattle.sp_locks.specs.Modes.{compatible, covers}
-use Rattle.sp_locks.specs.Rows.{is_held_by, is_lock_of, is_short, same_duration, is_blocked, goes, holds_in, held_in, blockers_in, retried, released_in, waiting_in, with_lock, granted}
+use Rattle.sp_locks.specs.Rows.{is_held_by, is_short, same_duration, is_blocked, goes, held_in, retried, waiting_in, with_lock, granted}
 use Rattle.sp_locks.specs.Table.{rows_on, row_of, with_row_on, released, held, blockers}
 use Rattle.sp_locks.specs.Soundness.{In, IsSound, WaitersBlocked}
 use Rattle.sp_locks.specs.Changes.{IsCovered}
@@ -20,7 +18,7 @@ use Rattle.sp_locks.proofs.Members.{none-any}
 use Rattle.sp_locks.proofs.Blocking.{blocked-is, held-nothing, held-against, against-held, blockers-block, block-blockers}
 use Rattle.sp_locks.proofs.OnNames.{released-on}
 use Rattle.sp_locks.proofs.Keeping.{in-name, in-table, no_waiter, grant-sound, wait-sound, release-sound}
-use Rattle.sp_waits.specs.Edges.{Closes, NoCycle}
+use Rattle.sp_waits.specs.Edges.{Closes}
 use Rattle.sp_waits.proofs.Acyclic.{wait-acyclic, release_short-acyclic}
 use Rattle.sp_waits.proofs.Granting.{grant-acyclic}
 use Rattle.sp_node.specs.Among.{Among}
@@ -29,14 +27,14 @@ use Rattle.sp_kernel.specs.declared.session.Session.{Session}
 use Rattle.sp_kernel.specs.declared.session.Stage.{Stage}
 use Rattle.sp_kernel.specs.State.{Kernel, is_active, is_active_stage, at_stage, staged}
 use Rattle.sp_kernel.specs.Refusals.{under_way}
-use Rattle.sp_kernel.specs.Soundness.{MayHave, HasOwner, RowsOwned, NamesUsed, SharesLatch, AwaitsObject, HoldsStage, is_queued, Sound}
+use Rattle.sp_kernel.specs.Soundness.{MayHave, HasOwner, RowsOwned, SharesLatch, HoldsStage, is_queued, Sound}
 use Rattle.sp_kernel.proofs.Sessions.{number-tell, number-same, number-differ, changed-among}
-use Rattle.sp_kernel.proofs.Holding.{in-among, among-in, IsLock, StayMet, StayHeld, met-held, released-others, released-short}
+use Rattle.sp_kernel.proofs.Holding.{in-among, among-in, StayMet, StayHeld, met-held, released-others, released-short}
 use Rattle.sp_kernel.proofs.Released.{ComesOf, may-come, released-owned, released-names, released-awaits_object}
 use Rattle.sp_kernel.proofs.Locking.{locked-stays, of_locked, of_waiting, waiting-met, locked-awaits_object, waiting-awaits_object}
 use Rattle.sp_kernel.proofs.Limits.{counts-no_more}
 use Rattle.sp_kernel.proofs.Awake.{released-awake, released-long, owned-staged}
-use Rattle.sp_kernel.proofs.Restaging.{with_both, Fits, restaged-sound}
+use Rattle.sp_kernel.proofs.Restaging.{with_both, restaged-sound}
 
 -- rows of which each that waits is blocked stay as they are when they are tried
 retried-same : (before rest : List Row) → WaitersBlocked (before ++ rest) → retried before rest ≡ before ++ rest
