@@ -1,11 +1,10 @@
 -- Which sessions wait for nothing, and what they may have.
-use Rattle.std.proofs.Common.{◌≡◌, ◌≢◌, ◌⊎◌, ℕ, Bool, true, false, not, ◌&&◌, List, [], ◌∷◌, Option, None, Some, nat_eq, refl, sym, ap, ◌∙◌, subst, inl, inr, true≢false, arith}
-use Rattle.std.specs.List.{find}
+use Rattle.std.proofs.Common.{◌≡◌, ℕ, Bool, true, false, ◌&&◌, List, Option, None, Some, nat_eq, refl, sym, ap, ◌∙◌, subst, true≢false, arith}
 use Rattle.sp_locks.specs.declared.row.Row.{Row}
-use Rattle.sp_locks.specs.declared.row.Scope.TheVariants.{ShortLocks, AllRows}
+use Rattle.sp_locks.specs.declared.row.Scope.TheVariants.{ShortLocks}
 use Rattle.sp_locks.specs.declared.row.Duration.{Duration}
-use Rattle.sp_locks.specs.declared.row.Duration.TheVariants.{Commit, Short}
-use Rattle.sp_locks.specs.Rows.{is_short, is_held_by, same_duration, is_waiter, waiting_in}
+use Rattle.sp_locks.specs.declared.row.Duration.TheVariants.{Short}
+use Rattle.sp_locks.specs.Rows.{is_short, is_held_by, same_duration, waiting_in}
 use Rattle.sp_locks.specs.Table.{released}
 use Rattle.sp_locks.proofs.Keeping.{found-waits, none-waits, released-waits}
 use Rattle.sp_node.specs.Among.{Among}

@@ -1,14 +1,14 @@
 -- Sums over the active sessions, as one comes, changes or goes.
-use Rattle.std.proofs.Common.{◌≡◌, ◌≢◌, ◌⊎◌, ℕ, ◌+◌, ◌<◌, Bool, true, false, not, cond, List, [], ◌∷◌, map, filter, length, refl, sym, ap, ◌∙◌, subst, inl, inr, true≢false, arith}
+use Rattle.std.proofs.Common.{◌≡◌, ◌≢◌, ℕ, ◌+◌, ◌<◌, Bool, true, false, cond, List, [], ◌∷◌, filter, length, refl, sym, ap, subst, inl, inr, arith}
 use Rattle.std.specs.Prelude.{nat_lt}
 use Rattle.std.specs.List.{sum_by}
 use Rattle.std.proofs.lemmas.List.Sums.{sum_by-cons}
 use Rattle.sp_node.specs.Among.{Among}
 use Rattle.sp_node.proofs.Among.{all_among}
 use Rattle.sp_kernel.specs.declared.session.Session.{Session}
-use Rattle.sp_kernel.specs.State.{is_active, is_session, sessions_without, with_session, with_change}
+use Rattle.sp_kernel.specs.State.{is_active, sessions_without, with_session, with_change}
 use Rattle.sp_kernel.specs.Soundness.{AreAscending}
-use Rattle.sp_kernel.proofs.Sessions.{number-apart, number-tell, number-same}
+use Rattle.sp_kernel.proofs.Sessions.{number-apart, number-tell}
 
 -- a length is a sum of ones
 pub length-sum : {A : Type 0} (xs : List A) → length xs ≡ sum_by (λ x. 1) xs

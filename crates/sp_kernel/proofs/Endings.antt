@@ -306,8 +306,11 @@ told-ends k x sound here placed = record {
   here = here;
   marks = record { tree = sym (same_table k.tree); next_entry = refl };
   keeps = record { number = λ e. refl; id = λ e. refl; rect = λ e. refl };
-  marked = λ t e i m. (m, λ is. let a = sound.active t e i m in
-      true≢false (sym a.2 ∙ ap is_active (one-keyed (λ (z : Session). z.txn.number) k.sessions sound.sessions.numbers a.0 x a.1 here (a.3 ∙ is)) ∙ ap is_active_stage placed));
+  marked = λ t e i m. (
+    m,
+    λ is. let a = sound.active t e i m in
+        true≢false (sym a.2 ∙ ap is_active (one-keyed (λ (z : Session). z.txn.number) k.sessions sound.sessions.numbers a.0 x a.1 here (a.3 ∙ is)) ∙ ap is_active_stage placed),
+  );
   free = λ t e h. h;
   sight = λ y op left i other at. record { keeps = record { number = λ e. refl; id = λ e. refl; rect = λ e. refl }; sight = λ id e is j same. refl; new = λ r n. refl };
   replays = λ y i other a. subst (λ (es : List Entry). Replays es y.txn.number y.txn.ops) (sym (same_entries (entries_in k))) (sound.replays y i a);

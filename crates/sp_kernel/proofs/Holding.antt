@@ -1,5 +1,5 @@
 -- What is held, as rows and sessions come, change and go.
-use Rattle.std.proofs.Common.{◌≡◌, ◌≢◌, ◌⊎◌, ℕ, Bool, true, false, not, cond, ◌&&◌, ◌||◌, List, [], ◌∷◌, ◌++◌, map, filter, flat_map, nat_eq, refl, sym, ap, ◌∙◌, subst, inl, inr, true≢false, arith}
+use Rattle.std.proofs.Common.{◌≡◌, ◌≢◌, ℕ, Bool, true, false, not, ◌&&◌, ◌||◌, List, [], ◌∷◌, ◌++◌, map, filter, nat_eq, refl, sym, ap, ◌∙◌, subst, inl, inr, true≢false, arith}
 use Rattle.std.specs.List.{list_any}
 use Rattle.sp_rect.specs.Plane.{Rectangle}
 use Rattle.sp_rect.specs.Store.{Part, Id, Area, part_of}
@@ -16,13 +16,13 @@ use Rattle.sp_locks.specs.declared.row.Scope.{Scope}
 use Rattle.sp_locks.specs.declared.row.Scope.TheVariants.{ShortLocks, AllRows}
 use Rattle.sp_locks.specs.declared.needs.Need.{Need}
 use Rattle.sp_locks.specs.Modes.{compatible, covers}
-use Rattle.sp_locks.specs.Rows.{is_lock_of, is_held_by, same_name, same_duration, goes, with_lock, raised}
-use Rattle.sp_locks.specs.Table.{rows_on, with_row_on, released, given}
+use Rattle.sp_locks.specs.Rows.{is_lock_of, is_held_by, same_name, same_duration, goes}
+use Rattle.sp_locks.specs.Table.{rows_on, released, given}
 use Rattle.sp_locks.specs.Soundness.{In, IsSound}
 use Rattle.sp_locks.specs.Changes.{IsCovered}
 use Rattle.sp_locks.proofs.Names.{same_is, same-refl}
-use Rattle.sp_locks.proofs.Members.{in-left, in-right}
-use Rattle.sp_locks.proofs.Keeping.{in-name, in-table}
+use Rattle.sp_locks.proofs.Members.{in-left}
+use Rattle.sp_locks.proofs.Keeping.{in-name}
 use Rattle.sp_locks.proofs.Changing.{released-covers}
 use Rattle.sp_node.specs.declared.node.Entry.{Entry}
 use Rattle.sp_node.specs.Among.{Among}

@@ -17,3 +17,7 @@ pub mod Staging
 pub mod Flushing
 pub mod Cleaning
 pub mod Ends
+pub mod Beginning
+pub mod Requesting
+pub mod Asking
+pub mod UpToLast

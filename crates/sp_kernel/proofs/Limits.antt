@@ -1,14 +1,14 @@
 -- Counts stay within their limits, as a session changes its stage.
-use Rattle.std.proofs.Common.{◌≡◌, ◌≢◌, ◌⊎◌, ℕ, ◌+◌, ◌<◌, ◌≤◌, Bool, true, false, cond, List, [], ◌∷◌, map, filter, length, refl, sym, ap, ◌∙◌, subst, arith}
+use Rattle.std.proofs.Common.{◌≡◌, ℕ, ◌+◌, ◌≤◌, Bool, true, cond, List, filter, length, sym, ap, ◌∙◌, subst, arith}
 use Rattle.std.specs.List.{sum_by}
 use Rattle.sp_locks.specs.declared.row.Row.{Row}
 use Rattle.sp_node.specs.Among.{Among}
 use Rattle.sp_kernel.specs.declared.session.Session.{Session}
 use Rattle.sp_kernel.specs.declared.session.Stage.{Stage}
-use Rattle.sp_kernel.specs.State.{Kernel, entries_in, is_active, is_active_stage, at_stage, staged}
+use Rattle.sp_kernel.specs.State.{Kernel, is_active, is_active_stage, at_stage, staged}
 use Rattle.sp_kernel.specs.Refusals.{under_way, open_transactions, open_operations, kept_operations, most_transactions, most_endings, most_operations, most_history}
-use Rattle.sp_kernel.specs.Stepped.{records_told, kept_records, most_records_told}
-use Rattle.sp_kernel.specs.Soundness.{AreAscending, WithinCounts, Sound}
+use Rattle.sp_kernel.specs.Stepped.{records_told, most_records_told}
+use Rattle.sp_kernel.specs.Soundness.{AreAscending, WithinCounts}
 use Rattle.sp_kernel.proofs.Sessions.{Fate, Changes, Stays, of_change, one-session}
 use Rattle.sp_kernel.proofs.Counting.{share, length-sum, change-sum}
 use Rattle.sp_kernel.proofs.Restaging.{with_both}

@@ -1,25 +1,25 @@
 -- What a row that comes makes of rows: a granted lock, and a request that waits.
-use Rattle.std.proofs.Common.{◌≡◌, ◌≢◌, ◌⊎◌, ℕ, Bool, true, false, not, ◌&&◌, ◌||◌, if◌then◌else◌, List, [], ◌∷◌, ◌++◌, filter, nat_eq, Option, None, Some, refl, sym, ap, ◌∙◌, subst, inl, inr, true≢false, arith}
+use Rattle.std.proofs.Common.{◌≡◌, ◌⊎◌, ℕ, Bool, true, false, List, [], ◌∷◌, ◌++◌, refl, sym, ap, ◌∙◌, subst, inl, inr, arith}
 use Rattle.sp_rect.specs.declared.operation.Op.{Op}
 use Rattle.sp_locks.specs.declared.mode.Mode.{Mode}
 use Rattle.sp_locks.specs.declared.row.Name.{Name}
 use Rattle.sp_locks.specs.declared.row.Row.{Row}
-use Rattle.sp_locks.specs.declared.row.Duration.TheVariants.{Commit, Short}
+use Rattle.sp_locks.specs.declared.row.Duration.TheVariants.{Commit}
 use Rattle.sp_locks.specs.Modes.{covers}
-use Rattle.sp_locks.specs.Rows.{same_name, with_lock, with_row, is_waiter, waiting_in}
+use Rattle.sp_locks.specs.Rows.{same_name, with_lock, with_row}
 use Rattle.sp_locks.specs.Table.{rows_on, row_of, with_row_on}
 use Rattle.sp_locks.specs.Soundness.{In}
 use Rattle.sp_locks.specs.Changes.{IsCovered}
 use Rattle.sp_locks.proofs.Names.{same_is}
 use Rattle.sp_locks.proofs.Members.{in-split}
 use Rattle.sp_locks.proofs.Compatibility.{Made, New, Raised, in-with_lock}
-use Rattle.sp_locks.proofs.Once.{waiters, waiters-with_lock, waits-same}
+use Rattle.sp_locks.proofs.Once.{waiters-with_lock, waits-same}
 use Rattle.sp_locks.proofs.OnNames.{with_row-on, with_row-off}
 use Rattle.sp_locks.proofs.Keeping.{in-name, in-table, waiting-stays}
 use Rattle.sp_node.specs.Among.{Among}
-use Rattle.sp_kernel.specs.Plans.{object_of, is_held}
+use Rattle.sp_kernel.specs.Plans.{is_held}
 use Rattle.sp_kernel.specs.Soundness.{AwaitsObject}
-use Rattle.sp_kernel.proofs.Holding.{in-among, among-in, IsLock, StayMet, covered-self, rows-stay, held-stays, met-held}
+use Rattle.sp_kernel.proofs.Holding.{in-among, among-in, StayMet, covered-self, rows-stay, held-stays, met-held}
 use Rattle.sp_kernel.proofs.Released.{ComesOf, Covered, covered-lock, lock-covered}
 
 as_lock : (r : Row) (xs : List Row) → r.waiting ≡ false → with_lock r xs ≡ with_row r xs

@@ -1,32 +1,30 @@
 -- What a release makes of rows: where each comes from, and what becomes of one that waits for a lock to the end.
-use Rattle.std.proofs.Common.{◌≡◌, ◌≢◌, ◌⊎◌, ℕ, ◌<◌, Bool, true, false, not, ◌&&◌, ◌||◌, if◌then◌else◌, List, [], ◌∷◌, ◌++◌, filter, nat_eq, Option, None, Some, refl, sym, ap, ◌∙◌, subst, inl, inr, true≢false, arith, append-nil, append_assoc}
+use Rattle.std.proofs.Common.{◌≡◌, ◌≢◌, ◌⊎◌, ℕ, Bool, true, false, not, ◌||◌, if◌then◌else◌, List, [], ◌∷◌, ◌++◌, filter, refl, sym, ap, ◌∙◌, subst, inl, inr, true≢false, arith, append-nil, append_assoc}
 use Rattle.sp_rect.specs.declared.operation.Op.{Op}
 use Rattle.sp_locks.specs.declared.mode.Mode.{Mode}
-use Rattle.sp_locks.specs.declared.row.Name.{Name}
-use Rattle.sp_locks.specs.declared.row.Name.TheVariants.{Granule as OnGranule}
 use Rattle.sp_locks.specs.declared.row.Row.{Row}
 use Rattle.sp_locks.specs.declared.row.Duration.{Duration}
 use Rattle.sp_locks.specs.declared.row.Duration.TheVariants.{Commit, Short}
 use Rattle.sp_locks.specs.declared.row.Scope.{Scope}
 use Rattle.sp_locks.specs.declared.row.Scope.TheVariants.{ShortLocks, AllRows}
 use Rattle.sp_locks.specs.Modes.{covers, join}
-use Rattle.sp_locks.specs.Rows.{same_name, same_duration, is_lock_of, is_held_by, is_blocked, is_short, raised, with_lock, granted, goes, retried, released_in, waiting_in}
+use Rattle.sp_locks.specs.Rows.{same_duration, is_lock_of, is_blocked, is_short, raised, with_lock, granted, goes, retried, released_in}
 use Rattle.sp_locks.specs.Table.{rows_on, row_of, released}
-use Rattle.sp_locks.specs.Soundness.{In, IsSound}
+use Rattle.sp_locks.specs.Soundness.{In}
 use Rattle.sp_locks.specs.Changes.{IsCovered}
-use Rattle.sp_locks.proofs.Members.{in-left, in-right, in-split, in-kept, of_kept, numbers-same}
+use Rattle.sp_locks.proofs.Members.{in-left, in-right, in-split, in-kept, of_kept}
 use Rattle.sp_locks.proofs.Compatibility.{Made, New, Raised, in-with_lock}
 use Rattle.sp_locks.proofs.Once.{waits-same, waiters-with_lock}
 use Rattle.sp_locks.proofs.OnNames.{released-on}
-use Rattle.sp_locks.proofs.Keeping.{in-name, in-table, released-waits}
+use Rattle.sp_locks.proofs.Keeping.{in-name, in-table}
 use Rattle.sp_node.specs.Among.{Among}
 use Rattle.sp_kernel.specs.declared.session.Session.{Session}
 use Rattle.sp_kernel.specs.declared.session.Stage.{Stage}
 use Rattle.sp_kernel.specs.declared.session.Stage.TheVariants.{Idle, Started, NameWait, Named, NeedWait, Planned, Queued, Placed}
-use Rattle.sp_kernel.specs.Plans.{object_of, is_held}
-use Rattle.sp_kernel.specs.Soundness.{MayHave, HasOwner, RowsOwned, NamesUsed, AwaitsObject}
+use Rattle.sp_kernel.specs.Plans.{is_held}
+use Rattle.sp_kernel.specs.Soundness.{MayHave, RowsOwned, NamesUsed, AwaitsObject}
 use Rattle.sp_kernel.proofs.Sessions.{number-apart, number-tell}
-use Rattle.sp_kernel.proofs.Holding.{in-among, among-in, IsLock, of_lock, HoldsRow, to_held, held-stays, released-others, met-held, lasts-tell}
+use Rattle.sp_kernel.proofs.Holding.{in-among, among-in, of_lock, to_held, held-stays, released-others, met-held}
 
 -- what holds of rows while short ones that wait are dropped and others are granted holds of them once all were tried
 pub tried-keeps : (P : List Row → Type 0) → ((xs ys : List Row) (r : Row) → r.waiting ≡ true → is_short r ≡ true → P (xs ++ r ∷ ys) → P (xs ++ ys))

@@ -1,33 +1,24 @@
 -- A change of one session's stage and of the rows alone keeps a kernel sound.
-use Rattle.std.proofs.Common.{◌≡◌, ◌≢◌, ◌⊎◌, ℕ, ◌+◌, ◌<◌, ◌≤◌, Bool, true, false, not, cond, ◌&&◌, ◌||◌, List, [], ◌∷◌, ◌++◌, map, filter, length, nat_eq, Option, None, Some, refl, sym, ap, ap₂, ◌∙◌, subst, inl, inr, true≢false, arith}
-use Rattle.std.specs.List.{AllByRecursion, IsDistinct, sum_by}
+use Rattle.std.proofs.Common.{◌≡◌, ◌≢◌, ◌⊎◌, ℕ, ◌<◌, ◌≤◌, true, false, cond, List, [], ◌∷◌, ◌++◌, map, length, nat_eq, refl, sym, ap, ap₂, ◌∙◌, subst, inl, inr, true≢false}
+use Rattle.std.specs.List.{AllByRecursion, IsDistinct}
 use Rattle.sp_rect.specs.declared.operation.Op.{Op}
 use Rattle.sp_rect.specs.declared.operation.Answered.{Answered}
-use Rattle.sp_locks.specs.declared.mode.Mode.{Mode}
-use Rattle.sp_locks.specs.declared.row.Name.{Name}
 use Rattle.sp_locks.specs.declared.row.Row.{Row}
-use Rattle.sp_locks.specs.declared.row.Duration.TheVariants.{Commit, Short}
 use Rattle.sp_locks.specs.declared.needs.Need.{Need}
 use Rattle.sp_locks.specs.Soundness.{IsSound}
 use Rattle.sp_waits.specs.Edges.{NoCycle}
-use Rattle.sp_node.specs.declared.node.Entry.{Entry}
 use Rattle.sp_node.specs.Among.{Among}
-use Rattle.sp_node.specs.Marks.{is_marked}
-use Rattle.sp_node.proofs.Among.{all_among}
 use Rattle.sp_granule.specs.Granules.{granules}
 use Rattle.sp_protection.specs.Replays.{Replays, HoldsParts, HasRectangles}
-use Rattle.sp_protection.proofs.Leaves.{among_map, from_map}
+use Rattle.sp_protection.proofs.Leaves.{among_map}
 use Rattle.sp_kernel.specs.declared.session.Session.{Session}
 use Rattle.sp_kernel.specs.declared.session.Stage.{Stage}
 use Rattle.sp_kernel.specs.declared.session.Stage.TheVariants.{Idle, Started, NameWait, Named, NeedWait, Planned, Queued, Placed}
 use Rattle.sp_kernel.specs.State.{Kernel, entries_in, is_active, is_active_stage, is_session, with_change, at_stage, staged, searched, locks_of}
-use Rattle.sp_kernel.specs.Refusals.{under_way, open_transactions, open_operations, kept_operations, most_transactions, most_endings, most_operations, most_history}
-use Rattle.sp_kernel.specs.Plans.{object_of, HasNeeds, Stays as Needs_stay, Adds, is_held, is_covered}
-use Rattle.sp_kernel.specs.Stepped.{records_told, kept_records, most_records_told}
-use Rattle.sp_kernel.specs.Soundness.{AreAscending, SoundSessions, MayHave, HasOwner, RowsOwned, NamesUsed, SharesLatch, LatchShared, HoldsObject, AwaitsObject, is_met, IsPlanned, HoldsStage, MarksActive, is_queued, QueueSound, WithinCounts, Sound}
-use Rattle.sp_kernel.proofs.Sessions.{number-tell, Fate, Changes, Stays, fate, OfChange, of_change, changed-among, others-among, one-session}
+use Rattle.sp_kernel.specs.Plans.{HasNeeds, Stays as Needs_stay, Adds, is_held}
+use Rattle.sp_kernel.specs.Soundness.{AreAscending, SoundSessions, RowsOwned, NamesUsed, SharesLatch, LatchShared, HoldsObject, AwaitsObject, is_met, HoldsStage, is_queued, QueueSound, WithinCounts, Sound}
+use Rattle.sp_kernel.proofs.Sessions.{Fate, Changes, Stays, fate, of_change, others-among, one-session}
 use Rattle.sp_kernel.proofs.Holding.{StayMet, StayHeld, met-held, held-stays, met-stays, object-stays, StayThere, HoldsStill, locks-still, parts-still, marks_owned-still}
-use Rattle.sp_kernel.proofs.Counting.{length-sum, change-sum}
 
 -- the kernel with these sessions and rows
 abbrev pub with_both : List Session → List Row → Kernel → Kernel

@@ -1,15 +1,14 @@
 -- Who is among the sessions, as one comes, changes or goes.
-use Rattle.std.proofs.Common.{◌≡◌, ◌≢◌, ◌⊎◌, ℕ, ◌<◌, Bool, true, false, not, cond, ◌&&◌, List, [], ◌∷◌, map, filter, Option, None, Some, nat_eq, refl, sym, ap, ◌∙◌, subst, inl, inr, true≢false, arith}
+use Rattle.std.proofs.Common.{◌≡◌, ◌≢◌, ◌⊎◌, ℕ, ◌<◌, Bool, true, false, not, cond, List, [], ◌∷◌, map, filter, Option, None, Some, nat_eq, refl, sym, ap, ◌∙◌, subst, inl, inr, true≢false, arith}
 use Rattle.std.specs.Prelude.{nat_lt}
-use Rattle.std.specs.List.{AllByRecursion, IsDistinct}
+use Rattle.std.specs.List.{IsDistinct}
 use Rattle.std.proofs.lemmas.Bool.Decides.{nat_tests}
 use Rattle.std.proofs.lemmas.Map.Keys.{IsDistinct-head, IsDistinct-tail}
 use Rattle.sp_node.specs.Among.{Among}
 use Rattle.sp_node.proofs.Among.{all_among}
 use Rattle.sp_protection.proofs.Leaves.{among_map, from_map}
 use Rattle.sp_kernel.specs.declared.session.Session.{Session}
-use Rattle.sp_kernel.specs.declared.session.Stage.{Stage}
-use Rattle.sp_kernel.specs.State.{is_session, session_at, sessions_without, with_session, with_change, at_stage, staged}
+use Rattle.sp_kernel.specs.State.{is_session, session_at, sessions_without, with_session, with_change}
 use Rattle.sp_kernel.specs.Soundness.{AreAscending}
 
 pub number-same : (a b : ℕ) → nat_eq a b ≡ true → a ≡ b

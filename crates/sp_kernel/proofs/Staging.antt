@@ -1,5 +1,5 @@
 -- The events that change a stage alone keep a kernel sound.
-use Rattle.std.proofs.Common.{◌≡◌, ◌≢◌, ◌⊎◌, ℕ, ◌+◌, ◌<◌, ◌≤◌, Bool, true, false, not, cond, ◌&&◌, List, [], ◌∷◌, ◌++◌, filter, Option, None, Some, length, nat_eq, refl, sym, ap, ◌∙◌, subst, inl, inr, true≢false, arith}
+use Rattle.std.proofs.Common.{◌≡◌, ◌≢◌, ◌⊎◌, ℕ, ◌+◌, ◌<◌, ◌≤◌, Bool, true, false, not, cond, ◌&&◌, List, [], ◌∷◌, ◌++◌, filter, None, Some, length, refl, sym, ap, ◌∙◌, subst, inl, inr, true≢false, arith}
 use Rattle.sp_rect.specs.declared.operation.Op.{Op}
 use Rattle.sp_locks.specs.declared.mode.Mode.{Mode}
 use Rattle.sp_locks.specs.declared.row.Name.{Name}
@@ -8,12 +8,12 @@ use Rattle.sp_locks.specs.declared.row.Row.{Row}
 use Rattle.sp_locks.specs.declared.row.Duration.{Duration}
 use Rattle.sp_locks.specs.declared.row.Duration.TheVariants.{Commit, Short}
 use Rattle.sp_locks.specs.declared.needs.Need.{Need}
-use Rattle.sp_locks.specs.Rows.{is_short, waiting_in}
+use Rattle.sp_locks.specs.Rows.{waiting_in}
 use Rattle.sp_locks.specs.Table.{row_of}
 use Rattle.sp_node.specs.Among.{Among}
 use Rattle.sp_node.proofs.Among.{among_left, among_right, among_split}
 use Rattle.sp_event.specs.declared.event.Event.TheVariants.{Start, Name as AskName, Plan}
-use Rattle.sp_protection.specs.Needs.{AreNeedsOf, AreInOrder, Precedes, by_kind}
+use Rattle.sp_protection.specs.Needs.{AreInOrder, Precedes, by_kind}
 use Rattle.sp_kernel.specs.declared.session.Session.{Session}
 use Rattle.sp_kernel.specs.declared.session.Stage.{Stage}
 use Rattle.sp_kernel.specs.declared.session.Stage.TheVariants.{Idle, Started, NameWait, Named, NeedWait, Planned, Queued, Placed}
@@ -21,13 +21,13 @@ use Rattle.sp_kernel.specs.State.{Kernel, is_active, is_active_stage, session_at
 use Rattle.sp_kernel.specs.Refusals.{is_search, holds_latch, shares, under_way, most_operations, most_history, kept_operations, open_operations, turned_away}
 use Rattle.sp_kernel.specs.Moves.{with_stage}
 use Rattle.sp_kernel.specs.Plans.{object_of, HasNeeds, Stays, Adds, is_held, is_covered, left_to_ask}
-use Rattle.sp_kernel.specs.Soundness.{MayHave, SharesLatch, HoldsObject, AwaitsObject, is_met, IsPlanned, HoldsStage, is_queued, WithinCounts, Sound}
+use Rattle.sp_kernel.specs.Soundness.{MayHave, SharesLatch, HoldsObject, is_met, IsPlanned, HoldsStage, is_queued, WithinCounts, Sound}
 use Rattle.sp_kernel.proofs.Sessions.{found-among, among-kept, of_kept}
-use Rattle.sp_kernel.proofs.Holding.{in-among, HoldsRow, IsLock, MeetsRow, of_held, to_met, covered-self, StayMet, rows-stay, met-held}
+use Rattle.sp_kernel.proofs.Holding.{of_held, to_met, StayMet, rows-stay, met-held}
 use Rattle.sp_kernel.proofs.Limits.{counts-staged, counts-no_more}
 use Rattle.sp_kernel.proofs.Awake.{may-have, of_awake, owned-staged}
 use Rattle.sp_kernel.proofs.Turned.{may_start, name-awake, plan-awake, plan-latch}
-use Rattle.sp_kernel.proofs.Restaging.{with_both, Fits, restaged-sound, needs-still}
+use Rattle.sp_kernel.proofs.Restaging.{restaged-sound, needs-still}
 
 -- what the stage says of a session, told of the stage that it is at
 pub told : {stage : Stage} (P : Stage → Type 0) (x : Session) → x.stage ≡ stage → P stage → P x.stage

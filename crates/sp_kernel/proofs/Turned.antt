@@ -1,11 +1,11 @@
 -- What holds where an event is not turned away.
-use Rattle.std.proofs.Common.{◌≡◌, ◌≢◌, ◌⊎◌, ℕ, ◌+◌, ◌<◌, ◌≤◌, Bool, true, false, not, cond, ◌&&◌, List, [], ◌∷◌, Option, None, Some, length, nat_eq, nat_le, refl, sym, ap, ◌∙◌, subst, inl, inr, true≢false, arith}
+use Rattle.std.proofs.Common.{◌≡◌, ◌≢◌, ℕ, ◌+◌, ◌<◌, Bool, true, false, not, cond, ◌&&◌, List, [], ◌∷◌, Option, None, Some, length, nat_eq, nat_le, refl, sym, subst, inl, inr, arith}
 use Rattle.std.proofs.lemmas.Bool.Decides.{nat_tests}
 use Rattle.sp_rect.specs.declared.operation.Op.{Op}
 use Rattle.sp_locks.specs.declared.row.Row.{Row}
 use Rattle.sp_locks.specs.Rows.{waiting_in}
 use Rattle.sp_event.specs.declared.event.Event.{Event}
-use Rattle.sp_event.specs.declared.event.Event.TheVariants.{Begin, Start, Name, Plan, Ask}
+use Rattle.sp_event.specs.declared.event.Event.TheVariants.{Begin, Start, Name, Plan}
 use Rattle.sp_event.specs.declared.answer.Answer.{Answer}
 use Rattle.sp_event.specs.declared.answer.Answer.TheVariants.{LatchBusy}
 use Rattle.sp_event.specs.declared.answer.Why.{Why}
@@ -14,8 +14,7 @@ use Rattle.sp_kernel.specs.declared.session.Session.{Session}
 use Rattle.sp_kernel.specs.declared.session.Stage.{Stage}
 use Rattle.sp_kernel.specs.declared.session.Stage.TheVariants.{Idle, Started, NameWait, Named, NeedWait, Planned, Queued, Placed}
 use Rattle.sp_kernel.specs.State.{Kernel, session_at}
-use Rattle.sp_kernel.specs.Refusals.{first_of, answer_if, found_for, stops, refusal, start_refused, refused, full, still, still_for, latched, first_holder, holds_latch, shares, is_search, kept_operations, open_operations, open_transactions, most_transactions, most_endings, most_operations, most_history, first_unused, turned_away}
-use Rattle.sp_kernel.specs.Soundness.{SharesLatch}
+use Rattle.sp_kernel.specs.Refusals.{first_of, answer_if, found_for, stops, refusal, start_refused, refused, full, still, still_for, latched, first_holder, holds_latch, shares, kept_operations, open_operations, open_transactions, most_transactions, most_endings, most_operations, most_history, first_unused, turned_away}
 
 -- the first answer is none where no answer is one
 pub none-first : (a : Option Answer) (rest : List (Option Answer)) → first_of (a ∷ rest) ≡ None → (a ≡ None) × (first_of rest ≡ None)

@@ -2,9 +2,11 @@
 #![tactic(auto)]
 
 mod ending;
+mod requests;
 mod session;
 
 pub use ending::{
     commits_keep_sound, flushes_keep_sound, removals_keep_sound, rollbacks_keep_sound,
 };
+pub use requests::{requests_keep_sound, stages_keep_sound};
 pub use session::{Session, Stage};
