@@ -4,4 +4,4 @@
 
 mod insertion;
 
-pub use insertion::insertions_are_lawful;
+pub use insertion::{insertions_are_lawful, puts_keep_all};
