@@ -1,5 +1,5 @@
 -- A removal of a dead entry, and one that is put off, keep a kernel sound.
-use Rattle.std.proofs.Common.{◌≡◌, ◌≢◌, ◌⊎◌, ℕ, zero, suc, ◌+◌, ◌<◌, ◌≤◌, ◌^◌, Bool, true, false, not, cond, ◌&&◌, ◌||◌, List, [], ◌∷◌, ◌++◌, map, flat_map, length, nat_eq, Option, None, Some, refl, sym, ap, ◌∙◌, subst, inl, inr, true≢false, arith}
+use Rattle.std.proofs.Common.{◌≡◌, ◌≢◌, ◌⊎◌, ℕ, zero, suc, ◌+◌, ◌<◌, ◌≤◌, ◌^◌, Bool, true, false, not, cond, ◌&&◌, ◌||◌, List, [], ◌∷◌, ◌++◌, map, length, nat_eq, None, Some, refl, sym, ap, ◌∙◌, subst, inl, inr, true≢false, arith}
 use Rattle.std.specs.Prelude.{nat_le}
 use Rattle.std.specs.List.{IsDistinct}
 use Rattle.std.proofs.lemmas.Bool.Decides.{nat_tests}
@@ -12,8 +12,7 @@ use Rattle.sp_rect.specs.declared.operation.Op.{Op}
 use Rattle.sp_locks.specs.declared.mode.Mode.{Mode}
 use Rattle.sp_locks.specs.declared.row.Name.{Name}
 use Rattle.sp_locks.specs.declared.row.Name.TheVariants.{Granule as OnGranule, Object}
-use Rattle.sp_locks.specs.declared.row.Row.{Row}
-use Rattle.sp_locks.specs.declared.row.Duration.TheVariants.{Commit, Short}
+use Rattle.sp_locks.specs.declared.row.Duration.TheVariants.{Short}
 use Rattle.sp_locks.specs.declared.needs.Need.{Need}
 use Rattle.sp_locks.specs.Modes.{compatible}
 use Rattle.sp_locks.specs.Table.{rows_on}
@@ -25,34 +24,31 @@ use Rattle.sp_node.specs.Among.{Among}
 use Rattle.sp_node.specs.Look.{look}
 use Rattle.sp_node.specs.Marks.{is_committed, is_made_by, is_ended_by, is_done, is_marked}
 use Rattle.sp_node.specs.Nested.{Body, Branch, Place, places, entries}
-use Rattle.sp_node.specs.Table.{Table, IsValid, body_at, level_of, places_of, entries_of}
+use Rattle.sp_node.specs.Table.{Table, body_at, level_of, places_of, entries_of}
 use Rattle.sp_node.proofs.Among.{among_left, among_right, among_split, among_flat_map, from_flat_map}
 use Rattle.sp_node.proofs.Laws.{one_of_number}
 use Rattle.sp_granule.specs.Granules.{Granule, Standing, standing, granule, granules}
 use Rattle.sp_txn.specs.Visible.{is_live, is_visible, record_of, record_for, live, view}
 use Rattle.sp_event.specs.declared.event.Event.TheVariants.{Clean}
-use Rattle.sp_event.specs.declared.answer.Answer.{Answer}
 use Rattle.sp_event.specs.declared.answer.Answer.TheVariants.{LatchBusy}
 use Rattle.sp_protection.specs.Asking.{on_granule, granule_needs}
 use Rattle.sp_protection.specs.Holding.{Lock, GranuleNeed, UnopposedByAll}
 use Rattle.sp_protection.specs.Guarding.{Guarded, Owned}
 use Rattle.sp_protection.specs.Needs.{ShortWant, AreNeedsOf}
-use Rattle.sp_protection.specs.Replays.{Replays, HoldsPart, OneEach, SameMembers}
+use Rattle.sp_protection.specs.Replays.{Replays, HoldsPart, SameMembers}
 use Rattle.sp_protection.specs.Reshape.{Licensed, SameStandings, StillHas}
 use Rattle.sp_protection.proofs.Leaves.{among_map, from_map, standing_entry}
 use Rattle.sp_protection.proofs.Rearranging.{rearranged, ordered_parts, run_ordered, one_each}
 use Rattle.sp_protection.proofs.Reshapes.{removal_keeps_guarded, removal_keeps_owned}
 use Rattle.sp_protection.proofs.Rules.{removal_licensed}
 use Rattle.sp_kernel.specs.declared.session.Session.{Session}
-use Rattle.sp_kernel.specs.declared.session.Stage.{Stage}
 use Rattle.sp_kernel.specs.declared.session.Stage.TheVariants.{Planned}
-use Rattle.sp_kernel.specs.State.{Kernel, entries_in, is_active, locks_of}
+use Rattle.sp_kernel.specs.State.{Kernel, entries_in, locks_of}
 use Rattle.sp_kernel.specs.Refusals.{first_unused, holds_latch, first_holder, turned_away}
 use Rattle.sp_kernel.specs.Moves.{cleaned, put_off}
 use Rattle.sp_kernel.specs.Removal.{KeepsOthers}
-use Rattle.sp_kernel.specs.Stepped.{Removes, AreUnopposed, most_entries}
-use Rattle.sp_kernel.specs.Soundness.{HoldsStage, DeadListed, Sound}
-use Rattle.sp_kernel.proofs.Sessions.{number-same, number-tell}
+use Rattle.sp_kernel.specs.Stepped.{AreUnopposed}
+use Rattle.sp_kernel.specs.Soundness.{DeadListed, Sound}
 use Rattle.sp_kernel.proofs.Holding.{among-in, rows-stay, OfLock, of_locks}
 use Rattle.sp_kernel.proofs.Turned.{is_let}
 use Rattle.sp_kernel.proofs.Dead.{distinct-cons, distinct-out, distinct-append, distinct-empty}

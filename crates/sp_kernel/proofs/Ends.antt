@@ -1,7 +1,5 @@
 -- What a commit, a rollback, a flush and a removal do keeps a kernel sound.
-use Rattle.std.proofs.Common.{◌≡◌, ◌≢◌, ℕ, ◌<◌, Bool, true, false, List, [], ◌∷◌, ◌++◌, Option, None, Some, refl, sym, ap, ◌∙◌, subst}
-use Rattle.sp_locks.specs.declared.needs.Need.{Need}
-use Rattle.sp_node.specs.Among.{Among}
+use Rattle.std.proofs.Common.{◌≡◌, ℕ, true, false, [], ◌∷◌, ◌++◌, Option, None, Some, refl, ap, subst}
 use Rattle.sp_node.specs.Table.{Table}
 use Rattle.sp_event.specs.declared.event.Event.TheVariants.{Commit as AskCommit, Flush, Rollback, Clean}
 use Rattle.sp_event.specs.declared.answer.Answer.{Answer}
@@ -9,7 +7,7 @@ use Rattle.sp_event.specs.declared.answer.Why.{Why}
 use Rattle.sp_kernel.specs.declared.session.Session.{Session}
 use Rattle.sp_kernel.specs.declared.session.Stage.{Stage}
 use Rattle.sp_kernel.specs.declared.session.Stage.TheVariants.{Idle, Started, NameWait, Named, NeedWait, Planned, Queued, Placed}
-use Rattle.sp_kernel.specs.State.{Kernel, is_active, is_active_stage, session_at, sessions_without}
+use Rattle.sp_kernel.specs.State.{Kernel, is_active_stage, sessions_without}
 use Rattle.sp_kernel.specs.Refusals.{refusal, rollback_refused, turned_away}
 use Rattle.sp_kernel.specs.Moves.{with_stage}
 use Rattle.sp_kernel.specs.Removal.{RemovesOne}

@@ -1,5 +1,5 @@
 -- Commits that wait for the next batch, its calls, and the places that they take once it is on the disk.
-use Rattle.std.proofs.Common.{◌≡◌, ◌≢◌, ◌⊎◌, ℕ, ◌+◌, ◌<◌, ◌≤◌, Bool, true, false, not, cond, List, [], ◌∷◌, ◌++◌, map, filter, length, nat_eq, Option, None, Some, refl, sym, ap, ap₂, ◌∙◌, subst, inl, inr, true≢false, append_assoc, append-nil, arith}
+use Rattle.std.proofs.Common.{◌≡◌, ◌≢◌, ◌⊎◌, ℕ, ◌+◌, ◌<◌, ◌≤◌, Bool, true, cond, List, [], ◌∷◌, ◌++◌, map, filter, length, nat_eq, Option, None, Some, refl, sym, ap, ◌∙◌, subst, inl, inr, true≢false, append_assoc, append-nil, arith}
 use Rattle.std.specs.List.{IsDistinct, sum_by}
 use Rattle.std.proofs.lemmas.List.{length-map}
 use Rattle.std.proofs.lemmas.Map.Keys.{IsDistinct-tail}
@@ -9,7 +9,6 @@ use Rattle.sp_locks.specs.declared.row.Scope.TheVariants.{AllRows}
 use Rattle.sp_locks.specs.Table.{released}
 use Rattle.sp_node.specs.declared.node.Entry.{Entry}
 use Rattle.sp_node.specs.Among.{Among}
-use Rattle.sp_node.specs.Change.{table_with}
 use Rattle.sp_node.specs.Marks.{settled}
 use Rattle.sp_node.proofs.Among.{among_left, among_right, among_split}
 use Rattle.sp_node.proofs.Changed.{valid_with, entries_of_with}
@@ -20,17 +19,17 @@ use Rattle.sp_kernel.specs.declared.session.Session.{Session}
 use Rattle.sp_kernel.specs.declared.session.Stage.{Stage}
 use Rattle.sp_kernel.specs.declared.session.Stage.TheVariants.{Idle, Started, NameWait, Named, NeedWait, Planned, Queued, Placed}
 use Rattle.sp_kernel.specs.State.{Kernel, entries_in, is_active, is_active_stage, is_session, session_at, at_stage, staged, locks_of}
-use Rattle.sp_kernel.specs.Refusals.{open_transactions, open_operations, kept_operations, under_way, most_operations}
+use Rattle.sp_kernel.specs.Refusals.{open_transactions, under_way, most_operations}
 use Rattle.sp_kernel.specs.Moves.{dead_among, newly_dead, with_stage, placed_commit, placed_found, placed_each, placed_all, taken_off}
 use Rattle.sp_kernel.specs.Stepped.{records_told}
-use Rattle.sp_kernel.specs.Soundness.{AreAscending, SoundSessions, RowsOwned, MayHave, HasOwner, SharesLatch, HoldsObject, HoldsStage, DeadListed, is_queued, QueueSound, WithinCounts, Sound}
+use Rattle.sp_kernel.specs.Soundness.{AreAscending, SoundSessions, RowsOwned, MayHave, HasOwner, SharesLatch, HoldsObject, HoldsStage, DeadListed, is_queued, QueueSound, Sound}
 use Rattle.sp_kernel.proofs.Sessions.{one-session, found-among, none-among, changed-among, others-among, Fate, Changes, Stays, fate, of_change}
-use Rattle.sp_kernel.proofs.Holding.{HoldsStill, StayHeld, rows-stay, met-held, locks-still, parts-still, marks_owned-still, object-stays}
+use Rattle.sp_kernel.proofs.Holding.{HoldsStill, rows-stay, met-held, locks-still, parts-still, marks_owned-still}
 use Rattle.sp_kernel.proofs.Counting.{length-sum, share, change-sum}
 use Rattle.sp_kernel.proofs.Restaging.{staged-keeps, sessions-staged, there-changed, latch-staged}
 use Rattle.sp_kernel.proofs.Dead.{distinct-cons, distinct-out, distinct-append, distinct-empty, StayDead, stay_dead-map, dead_grows}
 use Rattle.sp_kernel.proofs.Planned.{stage_stays}
-use Rattle.sp_kernel.proofs.Leaving.{shares_placed, Ends, ends_sound}
+use Rattle.sp_kernel.proofs.Leaving.{Ends, ends_sound}
 use Rattle.sp_kernel.proofs.Left.{Left, left_released, counts_left}
 use Rattle.sp_kernel.proofs.Settling.{settled-keeps, settled-done, settled-free, settled-others}
 use Rattle.sp_kernel.proofs.Endings.{commit-replays, commit-sight, commit-serial, commit-current, commit-counted, length-push}

@@ -21,3 +21,4 @@ pub mod Beginning
 pub mod Requesting
 pub mod Asking
 pub mod UpToLast
+pub mod Stepping
