@@ -1,5 +1,5 @@
 -- A rollback, a commit, and the news of a commit keep a kernel sound.
-use Rattle.std.proofs.Common.{◌≡◌, ◌≢◌, ◌⊎◌, ℕ, suc, ◌+◌, ◌<◌, ◌≤◌, Bool, true, false, not, cond, List, [], ◌∷◌, ◌++◌, map, filter, length, Option, None, Some, refl, sym, ap, ap₂, ◌∙◌, subst, inl, inr, true≢false, arith}
+use Rattle.std.proofs.Common.{◌≡◌, ◌≢◌, ℕ, ◌+◌, ◌≤◌, Bool, true, false, List, [], ◌∷◌, ◌++◌, map, filter, length, None, Some, refl, sym, ap, ◌∙◌, subst, inl, true≢false, arith}
 use Rattle.std.specs.List.{IsDistinct, sum_by}
 use Rattle.std.specs.Prelude.{nat_eq}
 use Rattle.std.proofs.lemmas.List.{length-map}
@@ -8,11 +8,10 @@ use Rattle.sp_rect.specs.declared.record.Record.{Record}
 use Rattle.sp_rect.specs.declared.commit.Commit.{Commit}
 use Rattle.sp_rect.specs.declared.operation.Op.{Op}
 use Rattle.sp_rect.specs.declared.operation.Op.TheVariants.{Put, Drop, Set, Get, Find, Fill, Clear}
-use Rattle.sp_rect.specs.Store.{Part, Id, Area, part_of, IsOrdered}
-use Rattle.sp_rect.specs.Serial.{records_after, RepliesAsPlain, SerialFrom, Serial, after_all}
+use Rattle.sp_rect.specs.Store.{Id, Area, part_of, IsOrdered}
+use Rattle.sp_rect.specs.Serial.{records_after, RepliesAsPlain, Serial, after_all}
 use Rattle.sp_locks.specs.declared.mode.Mode.{Mode}
 use Rattle.sp_locks.specs.declared.mode.Mode.TheVariants.{S, X}
-use Rattle.sp_locks.specs.declared.row.Name.{Name}
 use Rattle.sp_locks.specs.declared.row.Name.TheVariants.{Object}
 use Rattle.sp_locks.specs.declared.row.Row.{Row}
 use Rattle.sp_locks.specs.declared.row.Duration.TheVariants.{Commit as ToTheEnd}
@@ -28,9 +27,8 @@ use Rattle.sp_node.specs.declared.node.Node.{Node}
 use Rattle.sp_node.specs.declared.node.Node.TheVariants.{Leaf, Inner}
 use Rattle.sp_node.specs.Change.{node_with, nodes_with, table_with, Keeps}
 use Rattle.sp_node.specs.Marks.{is_marked, is_done, settled, undone}
-use Rattle.sp_node.specs.Table.{Table, IsValid, entries_of}
+use Rattle.sp_node.specs.Table.{Table}
 use Rattle.sp_node.proofs.Changed.{valid_with, entries_of_with}
-use Rattle.sp_granule.specs.Granules.{granules}
 use Rattle.sp_txn.specs.Visible.{is_live, is_visible, record_of, record_for, live, view}
 use Rattle.sp_audit.specs.declared.ended.Ended.{Ended}
 use Rattle.sp_audit.proofs.Serial.{Serial-push}
@@ -43,7 +41,7 @@ use Rattle.sp_protection.proofs.Commits.{commit_shows_view, commit_undisturbed}
 use Rattle.sp_protection.proofs.Rearranging.{ordered_parts, run_ordered, one_each}
 use Rattle.sp_kernel.specs.declared.session.Session.{Session}
 use Rattle.sp_kernel.specs.declared.session.Stage.{Stage}
-use Rattle.sp_kernel.specs.declared.session.Stage.TheVariants.{Idle, Started, NameWait, Named, NeedWait, Planned, Queued, Placed}
+use Rattle.sp_kernel.specs.declared.session.Stage.TheVariants.{Planned, Placed}
 use Rattle.sp_kernel.specs.State.{Kernel, entries_in, is_active, is_active_stage, sessions_without, locks_of}
 use Rattle.sp_kernel.specs.Refusals.{under_way, kept_operations}
 use Rattle.sp_kernel.specs.Moves.{newly_dead, with_ended, let_short_go, rolled_back, placed_commit, committed}
@@ -53,7 +51,7 @@ use Rattle.sp_kernel.specs.Soundness.{MayHave, HoldsObject, HoldsStage, DeadList
 use Rattle.sp_kernel.proofs.Sessions.{one-session, one-keyed, of_without, among-without}
 use Rattle.sp_kernel.proofs.Holding.{rows-stay, row-mode, of_held, locks-compatible}
 use Rattle.sp_kernel.proofs.Counting.{share, without-sum}
-use Rattle.sp_kernel.proofs.Dead.{StayDead, stay_dead-map, dead_grows}
+use Rattle.sp_kernel.proofs.Dead.{stay_dead-map, dead_grows}
 use Rattle.sp_kernel.proofs.Planned.{LeavesSight}
 use Rattle.sp_kernel.proofs.Leaving.{Ends, ends_sound}
 use Rattle.sp_kernel.proofs.Left.{Left, left_released, left_twice, rows-without, sound-without, queue-without, Counted, counts_left}
@@ -168,7 +166,7 @@ object_part (Find rect) id e = absurd (no_id rect id e)
 object_part (Fill rect value) id e = absurd (no_id rect id e)
 object_part (Clear rect) id e = absurd (no_id rect id e)
 
-run_all : (base : List Record) (commits : List Commit) → IsOrdered base → IsOrdered (after_all base commits)
+pub run_all : (base : List Record) (commits : List Commit) → IsOrdered base → IsOrdered (after_all base commits)
 run_all base [] h = h
 run_all base (c ∷ commits) h = run_all (records_after base c.ops) commits (run_ordered c.ops base h)
 

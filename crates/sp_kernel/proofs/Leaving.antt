@@ -1,5 +1,5 @@
 -- A transaction ends, by whatever way: what is left of the others.
-use Rattle.std.proofs.Common.{◌≡◌, ◌≢◌, ◌⊎◌, ℕ, ◌<◌, ◌≤◌, Bool, true, false, List, [], ◌∷◌, ◌++◌, map, length, refl, sym, ap, ◌∙◌, subst, inl, inr, true≢false}
+use Rattle.std.proofs.Common.{◌≡◌, ◌≢◌, ◌⊎◌, ℕ, ◌<◌, ◌≤◌, true, false, List, map, length, refl, sym, ap, ◌∙◌, subst, inl, inr, true≢false}
 use Rattle.sp_rect.specs.Store.{IsOrdered}
 use Rattle.sp_rect.specs.Serial.{Serial, after_all}
 use Rattle.sp_rect.specs.declared.operation.Op.{Op}
@@ -22,9 +22,9 @@ use Rattle.sp_kernel.specs.declared.session.Session.{Session}
 use Rattle.sp_kernel.specs.declared.session.Stage.{Stage}
 use Rattle.sp_kernel.specs.declared.session.Stage.TheVariants.{Idle, Started, NameWait, Named, NeedWait, Planned, Queued, Placed}
 use Rattle.sp_kernel.specs.State.{Kernel, entries_in, is_active, is_active_stage, locks_of}
-use Rattle.sp_kernel.specs.Soundness.{SoundSessions, RowsOwned, NamesUsed, SharesLatch, LatchShared, AwaitsObject, HoldsStage, MarksActive, NumbersUsed, DeadListed, QueueSound, WithinCounts, Sound}
+use Rattle.sp_kernel.specs.Soundness.{SoundSessions, RowsOwned, NamesUsed, SharesLatch, LatchShared, AwaitsObject, HoldsStage, DeadListed, QueueSound, WithinCounts, Sound}
 use Rattle.sp_kernel.proofs.Sessions.{one-session, one-keyed}
-use Rattle.sp_kernel.proofs.Holding.{StayMet, met-held, object-stays, HoldsStill, StayThere, locks-still, parts-still, owned-still}
+use Rattle.sp_kernel.proofs.Holding.{StayMet, met-held, object-stays, HoldsStill, locks-still, parts-still, owned-still}
 use Rattle.sp_kernel.proofs.Planned.{standing_same, MarksChange, same_granules, changed_entries, LeavesSight, stage_with}
 
 -- no mark of the transaction stands on the entry, dead or not

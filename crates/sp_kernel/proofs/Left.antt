@@ -1,5 +1,5 @@
 -- What is left of rows and sessions when a session's are gone.
-use Rattle.std.proofs.Common.{◌≡◌, ◌≢◌, ◌⊎◌, ℕ, ◌+◌, ◌<◌, ◌≤◌, Bool, true, false, not, cond, List, [], ◌∷◌, ◌++◌, map, filter, length, nat_eq, Option, None, Some, refl, sym, ap, ◌∙◌, subst, inl, inr, true≢false, arith}
+use Rattle.std.proofs.Common.{◌≡◌, ◌≢◌, ℕ, ◌+◌, ◌<◌, ◌≤◌, Bool, true, false, not, cond, List, [], ◌∷◌, map, filter, length, nat_eq, None, sym, ap, ◌∙◌, subst, true≢false, arith}
 use Rattle.std.specs.List.{AllByRecursion, IsDistinct, sum_by}
 use Rattle.std.proofs.lemmas.Map.Keys.{IsDistinct-tail}
 use Rattle.sp_rect.specs.declared.operation.Op.{Op}
@@ -8,7 +8,6 @@ use Rattle.sp_locks.specs.declared.row.Scope.TheVariants.{ShortLocks, AllRows}
 use Rattle.sp_locks.specs.Rows.{waiting_in}
 use Rattle.sp_locks.specs.Table.{released}
 use Rattle.sp_locks.specs.Soundness.{IsSound}
-use Rattle.sp_locks.specs.Changes.{IsCovered}
 use Rattle.sp_locks.proofs.Keeping.{release-sound}
 use Rattle.sp_waits.specs.Edges.{NoCycle}
 use Rattle.sp_waits.proofs.Acyclic.{release_all-acyclic, release_short-acyclic}
@@ -16,11 +15,10 @@ use Rattle.sp_node.specs.Among.{Among}
 use Rattle.sp_protection.proofs.Clashes.{covers-trans}
 use Rattle.sp_protection.proofs.Leaves.{among_map, from_map}
 use Rattle.sp_kernel.specs.declared.session.Session.{Session}
-use Rattle.sp_kernel.specs.declared.session.Stage.{Stage}
 use Rattle.sp_kernel.specs.State.{Kernel, entries_in, is_active, is_session, sessions_without}
-use Rattle.sp_kernel.specs.Refusals.{under_way, open_transactions, open_operations, kept_operations}
+use Rattle.sp_kernel.specs.Refusals.{under_way, open_transactions, kept_operations}
 use Rattle.sp_kernel.specs.Stepped.{records_told}
-use Rattle.sp_kernel.specs.Soundness.{AreAscending, SoundSessions, RowsOwned, NamesUsed, AwaitsObject, is_queued, QueueSound, WithinCounts, Sound}
+use Rattle.sp_kernel.specs.Soundness.{AreAscending, SoundSessions, RowsOwned, NamesUsed, AwaitsObject, is_queued, QueueSound, WithinCounts}
 use Rattle.sp_kernel.proofs.Sessions.{one-session, of_without, among-without, of_kept}
 use Rattle.sp_kernel.proofs.Holding.{in-among, StayMet, released-others}
 use Rattle.sp_kernel.proofs.Released.{released-owned, released-names, released-none, released-awaits_object}

@@ -14,6 +14,9 @@ pub mod Limits
 pub mod Awake
 pub mod Turned
 pub mod Staging
+pub mod Flushing
+pub mod Cleaning
+pub mod Ends
 pub mod Beginning
 pub mod Requesting
 pub mod Asking

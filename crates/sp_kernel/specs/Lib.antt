@@ -6,3 +6,4 @@ pub mod Stepped
 pub mod Soundness
 pub mod Opening
 pub mod Runs
+pub mod Removal

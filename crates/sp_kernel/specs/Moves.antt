@@ -82,15 +82,15 @@ with_ended txn cycle k = record k { ended = k.ended ++ record { txn = txn; cycle
 pub data Requests (k : Kernel) (x : Session) (name : Name) (mode : Mode) (duration : Duration) (granted waits : Stage) : Answer → Kernel → Type 0 where
   IsGranted : blockers x.txn.session name mode (released ShortLocks x.txn.session k.locks) ≡ []
       → Requests k x name mode duration granted waits Granted
-          (record (with_stage x.txn.session granted k) { locks = with_row_on (row_of x.txn.session name mode duration false) k.locks })
+      (record (with_stage x.txn.session granted k) { locks = with_row_on (row_of x.txn.session name mode duration false) k.locks })
   HasToWait : blockers x.txn.session name mode (released ShortLocks x.txn.session k.locks) ≢ []
       → IsToldCycle (released ShortLocks x.txn.session k.locks) x.txn.session name mode None
       → Requests k x name mode duration granted waits (Waits name mode (blockers x.txn.session name mode (released ShortLocks x.txn.session k.locks)))
-          (record (with_stage x.txn.session waits k) { locks = with_row_on (row_of x.txn.session name mode duration true) (released ShortLocks x.txn.session k.locks) })
+      (record (with_stage x.txn.session waits k) { locks = with_row_on (row_of x.txn.session name mode duration true) (released ShortLocks x.txn.session k.locks) })
   ClosesCycle : (cycle : List Edge) → blockers x.txn.session name mode (released ShortLocks x.txn.session k.locks) ≢ []
       → IsToldCycle (released ShortLocks x.txn.session k.locks) x.txn.session name mode (Some cycle)
       → Requests k x name mode duration granted waits (Deadlock cycle)
-          (with_ended x.txn.number cycle (rolled_back x (let_short_go x.txn.session k)))
+      (with_ended x.txn.number cycle (rolled_back x (let_short_go x.txn.session k)))
 
 -- the transaction takes the next place
 abbrev pub placed_commit : Session → Kernel → Commit

@@ -1,8 +1,12 @@
 //! The kernel of a transactional server of rectangles with records: its state, and what one event makes of it.
 #![tactic(auto)]
 
+mod ending;
 mod requests;
 mod session;
 
+pub use ending::{
+    commits_keep_sound, flushes_keep_sound, removals_keep_sound, rollbacks_keep_sound,
+};
 pub use requests::{requests_keep_sound, stages_keep_sound};
 pub use session::{Session, Stage};

@@ -26,7 +26,7 @@ use Rattle.sp_protection.specs.Apart.{IsApart, AreApart, SameAt, DifferApart, Un
 use Rattle.sp_protection.specs.Replays.{Replays, HoldsPart, HoldsParts, HasRectangles, OneEach, LeavesMarks, HoldsChanged}
 use Rattle.sp_protection.proofs.Clashes.{clash, exclusive-against_shared, exclusive-against_exclusive}
 use Rattle.sp_protection.proofs.Choice.{some_or_none, same as equal_from_test, tells}
-use Rattle.sp_protection.proofs.Leaves.{from_map, owned_apart}
+use Rattle.sp_protection.proofs.Leaves.{owned_apart}
 use Rattle.sp_protection.proofs.Runs.{sorted-ascends, within-sorted, same_store, undisturbed, run-ascends}
 
 made_alike : (t : ℕ) (m : Made) → is_committed (made_settled t m) ≡ (is_committed m || is_made_by t m)
@@ -379,16 +379,6 @@ settled-marked v u e h =
 
     done : (n : Ended) → is_done (ended_settled u n) ≡ false → is_done n ≡ false
     done n h = grind (arith, nat_tests)
-
--- what is still marked is still owned
-pub commit_keeps_owned : (tree : Table) (locks : List Lock) (u : ℕ) (es : List Entry) → MarksOwned (granules tree) locks es → MarksOwned (granules tree) locks (map (settled u) es)
-commit_keeps_owned tree locks u es owned v x i marked =
-    let from = from_map (settled u) x es i in
-    subst (λ (z : Entry). Owned (granules tree) locks v (standing z)) from.2
-    (owned_same from.0 (owned v from.0 from.1 (settled-marked v u from.0 (subst (λ (z : Entry). is_marked v z ≡ true) (sym from.2) marked))))
-  where
-    owned_same : (e : Entry) → Owned (granules tree) locks v (standing e) → Owned (granules tree) locks v (standing (settled u e))
-    owned_same e h = h
 
 -- exclusive locks on the objects keep an operation off the marks of others
 pub locks_leave_marks : (tree : Table) (locks : List Lock) (t u : ℕ) (op : Op) (es : List Entry) → AllCompatible locks → u ≢ t → MarksOwned (granules tree) locks es → HoldsChanged locks t op es → LeavesMarks t u op es

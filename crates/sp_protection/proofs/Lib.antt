@@ -7,3 +7,6 @@ pub mod Applying
 pub mod Commits
 pub mod Rearranging
 pub mod Insertions
+pub mod Wanted
+pub mod Rules
+pub mod Marking

@@ -6,3 +6,4 @@ pub mod Effects
 pub mod Apart
 pub mod Replays
 pub mod Insertion
+pub mod Asking

@@ -1,21 +1,24 @@
 // Laws of replays: what each transaction was told is what its operations give on what is live, whatever the
 // others do.
-ghost use Rattle.std.specs.Prelude.{◌≡◌, ◌≢◌, ◌↔◌, ℕ, List, [], ◌∷◌, ◌++◌, map};
+ghost use Rattle.std.specs.Prelude.{◌≡◌, ◌≢◌, ◌↔◌, ℕ, true, List, [], ◌∷◌, ◌++◌, map};
+ghost use Rattle.sp_rect.specs.Plane.{Rectangle as AnyRectangle};
 ghost use Rattle.sp_rect.specs.declared.record.Record.{Record as AnyRecord};
 ghost use Rattle.sp_rect.specs.declared.operation.Op.{Op as AnyOp};
 ghost use Rattle.sp_rect.specs.declared.operation.Answered.{Answered as AnyAnswered};
-ghost use Rattle.sp_rect.specs.Store.{IsAscendingFrom, IsOrdered, replied};
+ghost use Rattle.sp_rect.specs.Store.{IsAscendingFrom, IsOrdered, part_of, within, replied};
 ghost use Rattle.sp_rect.specs.Serial.{records_after};
 ghost use Rattle.sp_node.specs.declared.node.Entry.{Entry as AnyEntry};
+ghost use Rattle.sp_node.specs.Among.{Among};
 ghost use Rattle.sp_node.specs.Marks.{settled, undone};
 ghost use Rattle.sp_node.specs.Table.{Table, IsValid};
-ghost use Rattle.sp_granule.specs.Granules.{granules};
+ghost use Rattle.sp_granule.specs.Granules.{Standing as AnyStanding, standing, granules};
 ghost use Rattle.sp_txn.specs.Visible.{is_live, is_visible, live, view};
 ghost use Rattle.sp_protection.specs.Holding.{Lock as AnyLock, AllCompatible};
-ghost use Rattle.sp_protection.specs.Guarding.{MarksOwned};
-ghost use Rattle.sp_protection.specs.Effects.{applied};
+ghost use Rattle.sp_protection.specs.Guarding.{Guarded, Owned, MarksOwned};
+ghost use Rattle.sp_protection.specs.Effects.{is_changed, entered, applied};
 ghost use Rattle.sp_protection.specs.Apart.{DifferApart, Undisturbed, HasOneEach};
 ghost use Rattle.sp_protection.specs.Replays.{Replays, HoldsParts, HasRectangles, OneEach, SameMembers, LeavesMarks, HoldsChanged};
+ghost use Rattle.sp_protection.specs.Asking.{KeepsLocks};
 
 /// A law: operations give the same replies on two stores that differ only where they do not look.
 pub fn undisturbed()
@@ -50,13 +53,30 @@ pub fn commits_are_apart()
         → HasRectangles pairs → HoldsParts (granules tree) locks t pairs → Replays es t pairs → Replays (map (settled u) es) t pairs }
 {}
 
-/// A law: what is still marked after a commit is still owned, and X on the objects of the entries that an
-/// operation changes keeps it off the marks of other transactions.
+/// A law: what is still marked after a commit or a rollback is still owned, whatever becomes of the locks of
+/// the transaction that ended. What is marked after an operation is owned, where what it changes and what it
+/// enters is. X on the objects of the entries that an operation changes keeps it off the marks of others.
 pub fn marks_are_owned()
-    ensures commit { (tree : Table) (locks : List AnyLock) (u : ℕ) (es : List AnyEntry) → MarksOwned (granules tree) locks es
-        → MarksOwned (granules tree) locks (map (settled u) es) }
+    ensures commit { (tree : Table) (locks left : List AnyLock) (u : ℕ) (es : List AnyEntry) → ((v : ℕ) → v ≢ u → KeepsLocks locks left v)
+        → MarksOwned (granules tree) locks es → MarksOwned (granules tree) left (map (settled u) es) }
+    ensures rollback { (tree : Table) (locks left : List AnyLock) (u : ℕ) (es : List AnyEntry) → ((v : ℕ) → v ≢ u → KeepsLocks locks left v)
+        → MarksOwned (granules tree) locks es → MarksOwned (granules tree) left (map (undone u) es) }
+    ensures operation { (tree : Table) (locks : List AnyLock) (t number : ℕ) (op : AnyOp) (es : List AnyEntry)
+        → ((e : AnyEntry) → Among e es → is_changed t op e ≡ true → Owned (granules tree) locks t (standing e))
+        → ((e : AnyEntry) → Among e (entered t number op (within (part_of op) (view es t))) → Owned (granules tree) locks t (standing e))
+        → MarksOwned (granules tree) locks es → MarksOwned (granules tree) locks (applied t number op es) }
     ensures apart { (tree : Table) (locks : List AnyLock) (t u : ℕ) (op : AnyOp) (es : List AnyEntry) → AllCompatible locks → u ≢ t
         → MarksOwned (granules tree) locks es → HoldsChanged locks t op es → LeavesMarks t u op es }
+{}
+
+/// A law: what a transaction guards and owns, and what its operations hold, rests on its own locks alone.
+pub fn own_locks_are_enough()
+    ensures guarded { (tree : Table) (locks left : List AnyLock) (t : ℕ) (rect : AnyRectangle) → KeepsLocks locks left t
+        → Guarded (granules tree) locks t rect → Guarded (granules tree) left t rect }
+    ensures owned { (tree : Table) (locks left : List AnyLock) (t : ℕ) (e : AnyStanding) → KeepsLocks locks left t
+        → Owned (granules tree) locks t e → Owned (granules tree) left t e }
+    ensures parts { (tree : Table) (locks left : List AnyLock) (t : ℕ) (pairs : List AnyAnswered) → KeepsLocks locks left t
+        → HoldsParts (granules tree) locks t pairs → HoldsParts (granules tree) left t pairs }
 {}
 
 /// A law: what is live and what a transaction sees do not depend on the order of the entries, nor on
