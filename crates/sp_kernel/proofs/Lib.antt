@@ -22,3 +22,4 @@ pub mod Requesting
 pub mod Asking
 pub mod UpToLast
 pub mod Stepping
+pub mod Untouched
