@@ -23,3 +23,4 @@ pub mod Asking
 pub mod UpToLast
 pub mod Stepping
 pub mod Untouched
+pub mod Dying
