@@ -377,7 +377,7 @@ module _ (k0 k : Kernel) (x : Session) (rest : List ℕ) (listed : DeadListed k0
   placed-sound = ends_sound (settled x.txn.number) x (as_if k0 (x.txn.session ∷ rest) k) (as_if k0 rest (placed x k)) sound placed-ends
 
 -- the first of the batch takes its place
-place_next : (k0 k : Kernel) (s : ℕ) (rest : List ℕ) → DeadListed k0.dead (entries_in k0) → StayDead (entries_in k0) (entries_in k) → Sound (as_if k0 (s ∷ rest) k)
+pub place_next : (k0 k : Kernel) (s : ℕ) (rest : List ℕ) → DeadListed k0.dead (entries_in k0) → StayDead (entries_in k0) (entries_in k) → Sound (as_if k0 (s ∷ rest) k)
     → Sound (as_if k0 rest (placed_found (session_at s k.sessions) k)) × StayDead (entries_in k0) (entries_in (placed_found (session_at s k.sessions) k))
 place_next k0 k s rest listed stay sound = go (session_at s k.sessions) refl
   where

@@ -22,3 +22,5 @@ pub mod Requesting
 pub mod Asking
 pub mod UpToLast
 pub mod Stepping
+pub mod Untouched
+pub mod Dying

@@ -7,3 +7,4 @@ pub mod Soundness
 pub mod Opening
 pub mod Runs
 pub mod Removal
+pub mod Unmarked

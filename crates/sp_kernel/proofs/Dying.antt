@@ -1,0 +1,143 @@
+-- Every event leaves nothing of an active transaction on a dead entry.
+use Rattle.std.proofs.Common.{◌≡◌, ◌≢◌, ◌⊎◌, ℕ, ◌≤◌, Bool, true, false, not, cond, ◌&&◌, ◌||◌, List, [], ◌∷◌, ◌++◌, map, Option, None, Some, refl, sym, ap, ◌∙◌, subst, inl, inr, true≢false, arith}
+use Rattle.sp_rect.specs.declared.record.Record.{Record}
+use Rattle.sp_rect.specs.declared.operation.Op.{Op}
+use Rattle.sp_rect.specs.declared.operation.Op.TheVariants.{Put, Drop, Set, Get, Find, Fill, Clear}
+use Rattle.sp_rect.specs.Store.{Part, Id, Area, touches}
+use Rattle.sp_locks.specs.declared.mode.Mode.{Mode}
+use Rattle.sp_locks.specs.declared.row.Name.{Name}
+use Rattle.sp_locks.specs.declared.row.Duration.{Duration}
+use Rattle.sp_node.specs.declared.node.Entry.{Entry}
+use Rattle.sp_node.specs.Among.{Among}
+use Rattle.sp_node.specs.Change.{Keeps}
+use Rattle.sp_node.specs.Marks.{is_committed, is_made_by, is_ended_by, is_done, marked, settled, undone}
+use Rattle.sp_node.specs.Table.{Table, IsValid, entries_of}
+use Rattle.sp_node.proofs.Changed.{entries_of_with}
+use Rattle.sp_txn.specs.Visible.{is_visible, record_for}
+use Rattle.sp_event.specs.declared.event.Event.{Event}
+use Rattle.sp_event.specs.declared.event.Event.TheVariants.{Begin, Start, Name as AskName, Plan, Ask, Apply, Commit as AskCommit, Flush, Rollback, Clean}
+use Rattle.sp_event.specs.declared.answer.Answer.{Answer}
+use Rattle.sp_protection.specs.Effects.{is_seen_in, is_changed, ended_by, drafted_by, marks_by, marked_by, fresh}
+use Rattle.sp_protection.proofs.Leaves.{from_map}
+use Rattle.sp_kernel.specs.declared.session.Session.{Session}
+use Rattle.sp_kernel.specs.declared.session.Stage.{Stage}
+use Rattle.sp_kernel.specs.declared.session.Stage.TheVariants.{Idle, Started, NameWait, Named, NeedWait, Planned, Queued, Placed}
+use Rattle.sp_kernel.specs.State.{Kernel, entries_in, is_active, is_active_stage, is_session, session_at, sessions_without, with_change, at_stage, staged}
+use Rattle.sp_kernel.specs.Refusals.{refusal, turned_away}
+use Rattle.sp_kernel.specs.Moves.{Requests, lengthened, placed_found, placed_each}
+use Rattle.sp_kernel.specs.Plans.{IsInserted}
+use Rattle.sp_kernel.specs.Removal.{RemovesOne}
+use Rattle.sp_kernel.specs.Stepped.{Does, IsAt, reply_of}
+use Rattle.sp_kernel.specs.Unmarked.{IsUntouched, DeadUntouched, IsDeadUntouched}
+use Rattle.sp_kernel.specs.Soundness.{DeadListed, is_queued, Sound}
+use Rattle.sp_kernel.proofs.Sessions.{one-session, found-among, none-among, Fate, Changes, Stays, of_change, of_without, of_with}
+use Rattle.sp_kernel.proofs.Turned.{is_let, may_start}
+use Rattle.sp_kernel.proofs.Dead.{StayDead}
+use Rattle.sp_kernel.proofs.Settling.{undone-keeps, settled-keeps, undone-free, settled-free}
+use Rattle.sp_kernel.proofs.Flushing.{as_if, place_next}
+use Rattle.sp_kernel.proofs.Untouched.{untouched-from, untouched-ended, undone-newly, settled-newly}
+
+-- an active session that changes was one before
+module _ (s : ℕ) (change : Session → Session) (number : (z : Session) → (change z).txn.number ≡ z.txn.number) (xs : List Session) (at : (z : Session) → Among z xs → z.txn.session ≡ s → is_active z ≡ true) where
+  pub origin : (y : Session) → Among y (with_change s change xs) → is_active y ≡ true → (z : Session) × Among z xs × (is_active z ≡ true) × (z.txn.number ≡ y.txn.number)
+  origin y i active = let o = of_change s change xs y i in go o.old y o.stood o.how active
+    where
+      go : (z y : Session) → Among z xs → Fate s change z y → is_active y ≡ true → (w : Session) × Among w xs × (is_active w ≡ true) × (w.txn.number ≡ y.txn.number)
+      go z _ j (Changes e) a = (z, j, at z j e, sym (number z))
+      go z _ j (Stays e) a = (z, j, a, refl)
+
+-- entries that stay
+same_dead : (es : List Entry) (e : Entry) → Among e es → is_done e.marks.ended ≡ true → (o : Entry) × Among o es × (is_done o.marks.ended ≡ true) × ((t : ℕ) → IsUntouched t o → IsUntouched t e)
+same_dead es e i d = (e, i, d, λ t h. h)
+
+-- an operation marks what is not dead, and lets nothing die
+marks_alive : (t : ℕ) (op : Op) (e : Entry) → is_done (marked_by t op e).marks.ended ≡ true → (is_done e.marks.ended ≡ true) × (marked_by t op e ≡ e)
+marks_alive t op e = go op
+  where
+    alive : (c m x d b : Bool) → (((c || m) && not (x || d)) && b) ≡ true → d ≡ true → ⊥
+    alive c m x d b h k = grind arith
+
+    ends : (b : Bool) → is_done (cond b (marked (ended_by t e.marks) e) e).marks.ended ≡ true → (is_done e.marks.ended ≡ true) × (cond b (marked (ended_by t e.marks) e) e ≡ e)
+    ends true d = absurd (true≢false (sym d))
+    ends false d = (d, refl)
+
+    drafts : (part : Part) (value : List ℕ) (b : Bool) → is_seen_in t part e ≡ b → is_done (cond b (marked (drafted_by t value e.marks) e) e).marks.ended ≡ true → (is_done e.marks.ended ≡ true) × (cond b (marked (drafted_by t value e.marks) e) e ≡ e)
+    drafts part value true k d = absurd (alive (is_committed e.marks.made) (is_made_by t e.marks.made) (is_ended_by t e.marks.ended) (is_done e.marks.ended) (touches part (record_for t e)) k d)
+    drafts part value false k d = (d, refl)
+
+    go : (o : Op) → is_done (marked_by t o e).marks.ended ≡ true → (is_done e.marks.ended ≡ true) × (marked_by t o e ≡ e)
+    go (Put r) d = (d, refl)
+    go (Drop id) d = ends (is_seen_in t (Id id) e) d
+    go (Set id value) d = drafts (Id id) value (is_seen_in t (Id id) e) refl d
+    go (Get id) d = (d, refl)
+    go (Find rect) d = (d, refl)
+    go (Fill rect value) d = drafts (Area rect) value (is_seen_in t (Area rect) e) refl d
+    go (Clear rect) d = ends (is_seen_in t (Area rect) e) d
+
+marked_dead : (t : ℕ) (op : Op) (es : List Entry) (e : Entry) → Among e (map (marked_by t op) es) → is_done e.marks.ended ≡ true → (o : Entry) × Among o es × (is_done o.marks.ended ≡ true) × ((u : ℕ) → IsUntouched u o → IsUntouched u e)
+marked_dead t op es e i d =
+    let r = from_map (marked_by t op) e es i in
+    let a = marks_alive t op r.0 (subst (λ (z : Entry). is_done z.marks.ended ≡ true) (sym r.2) d) in
+    (r.0, r.1, a.0, λ u h. subst (IsUntouched u) (sym a.1 ∙ r.2) h)
+
+marks_keep : (t : ℕ) (op : Op) → Keeps (marked_by t op)
+marks_keep t op = record { number = λ e. number e (is_changed t op e); id = λ e. id e (is_changed t op e); rect = λ e. rect e (is_changed t op e) }
+  where
+    number : (e : Entry) (b : Bool) → (cond b (marked (marks_by t op e.marks) e) e).number ≡ e.number
+    number e true = refl
+    number e false = refl
+
+    id : (e : Entry) (b : Bool) → (cond b (marked (marks_by t op e.marks) e) e).id ≡ e.id
+    id e true = refl
+    id e false = refl
+
+    rect : (e : Entry) (b : Bool) → (cond b (marked (marks_by t op e.marks) e) e).rect ≡ e.rect
+    rect e true = refl
+    rect e false = refl
+
+module _ (k : Kernel) (sound : Sound k) (dead : IsDeadUntouched k) where
+  -- an active session that is found
+  module _ (s : ℕ) (x : Session) (found : IsAt k s x) (active : is_active x ≡ true) where
+    here : Among x k.sessions
+    here = (found-among s k.sessions x found).0
+
+    named : x.txn.session ≡ s
+    named = (found-among s k.sessions x found).1
+
+    at : (z : Session) → Among z k.sessions → z.txn.session ≡ s → is_active z ≡ true
+    at z i e = subst (λ (w : Session). is_active w ≡ true) (sym (one-session k.sessions sound.sessions.ascending z x i here (e ∙ sym named))) active
+
+    -- it goes on at another stage
+    pub dead-staged : (stage : Stage) → DeadUntouched (staged s stage k.sessions) (entries_in k)
+    dead-staged stage = untouched-from k.sessions (staged s stage k.sessions) (entries_in k) (entries_in k) (origin s (at_stage stage) (λ z. refl) k.sessions at) (same_dead (entries_in k)) dead
+
+    -- its operation is kept, and over
+    pub dead-kept : (stage : Stage) (change : Session → Session) (es : List Entry) → ((z : Session) → (change z).txn.number ≡ z.txn.number) → ((z : Session) → (change z).stage ≡ z.stage)
+        → ((e : Entry) → Among e es → is_done e.marks.ended ≡ true → (o : Entry) × Among o (entries_in k) × (is_done o.marks.ended ≡ true) × ((u : ℕ) → IsUntouched u o → IsUntouched u e))
+        → DeadUntouched (staged s stage (with_change s change k.sessions)) es
+    dead-kept stage change es number same stood = untouched-from k.sessions (staged s stage (with_change s change k.sessions)) (entries_in k) es was stood dead
+      where
+        at' : (z : Session) → Among z (with_change s change k.sessions) → z.txn.session ≡ s → is_active z ≡ true
+        at' z i e = let o = of_change s change k.sessions z i in go o.old z o.stood o.how e
+          where
+            go : (w z : Session) → Among w k.sessions → Fate s change w z → z.txn.session ≡ s → is_active z ≡ true
+            go w _ j (Changes e) f = ap is_active_stage (same w) ∙ at w j e
+            go w _ j (Stays e) f = absurd (e f)
+
+        was : (y : Session) → Among y (staged s stage (with_change s change k.sessions)) → is_active y ≡ true → (z : Session) × Among z k.sessions × (is_active z ≡ true) × (z.txn.number ≡ y.txn.number)
+        was y i a =
+            let m = origin s (at_stage stage) (λ z. refl) (with_change s change k.sessions) at' y i a in
+            let n = origin s change number k.sessions at m.0 m.1 m.2 in
+            (n.0, n.1, n.2, n.3 ∙ m.3)
+
+    -- its transaction ends
+    pub dead-undone : DeadUntouched (sessions_without x.txn.session k.sessions) (map (undone x.txn.number) (entries_in k))
+    dead-undone = untouched-ended k x (undone x.txn.number) sound here dead (undone-free x.txn.number) (undone-newly x.txn.number) (sessions_without x.txn.session k.sessions) (λ y i a. of_without x.txn.session k.sessions y i)
+
+    pub dead-settled : DeadUntouched (sessions_without x.txn.session k.sessions) (map (settled x.txn.number) (entries_in k))
+    dead-settled = untouched-ended k x (settled x.txn.number) sound here dead (settled-free x.txn.number) (settled-newly x.txn.number) (sessions_without x.txn.session k.sessions) (λ y i a. of_without x.txn.session k.sessions y i)
+
+    requests : (name : Name) (mode : Mode) (duration : Duration) (granted waits : Stage) (answer : Answer) (after : Kernel) → Requests k x name mode duration granted waits answer after → IsDeadUntouched after
+    requests name mode duration granted waits _ _ (Requests.IsGranted free) = subst (λ (n : ℕ). DeadUntouched (staged n granted k.sessions) (entries_in k)) (sym named) (dead-staged granted)
+    requests name mode duration granted waits _ _ (Requests.HasToWait some told) = subst (λ (n : ℕ). DeadUntouched (staged n waits k.sessions) (entries_in k)) (sym named) (dead-staged waits)
+    requests name mode duration granted waits _ _ (Requests.ClosesCycle cycle some told) = subst (DeadUntouched (sessions_without x.txn.session k.sessions)) (sym (entries_of_with (undone x.txn.number) (undone-keeps x.txn.number) k.tree)) dead-undone
