@@ -54,6 +54,8 @@ pub record IsInserted (t : Table) (e : Entry) (t' : Table) : Type 0 where
   pub grown : IsGrown t e t'
   pub valid : IsValid t'
   pub ascending : IsAscending t'.nodes
+  -- a number that both have names the same entry
+  pub same : (f g : Entry) → Among f (entries_of t) → Among g (entries_of t') → f.number ≡ g.number → f ≡ g
 
 -- the tree that a put leaves, and the leaf that is chosen for its entry
 pub record Inserts (k : Kernel) (x : Session) (r : Record) (after : Table) (chosen : ℕ) : Type 0 where
