@@ -34,6 +34,7 @@ use Rattle.sp_kernel.specs.Soundness.{DeadListed, is_queued, Sound}
 use Rattle.sp_kernel.proofs.Sessions.{one-session, found-among, none-among, Fate, Changes, Stays, of_change, of_without, of_with}
 use Rattle.sp_kernel.proofs.Turned.{is_let, may_start}
 use Rattle.sp_kernel.proofs.Dead.{StayDead}
+use Rattle.sp_kernel.proofs.Entering.{grown_only}
 use Rattle.sp_kernel.proofs.Settling.{undone-keeps, settled-keeps, undone-free, settled-free}
 use Rattle.sp_kernel.proofs.Ends.{rollback-active}
 use Rattle.sp_kernel.proofs.Flushing.{as_if, batch-sound, place_next}
@@ -173,23 +174,23 @@ module _ (k : Kernel) (sound : Sound k) (dead : IsDeadUntouched k) where
   ask_untouched : (IsRemoved : Table → ℕ → Table → Type 0) (s : ℕ) (answer : Answer) (after : Kernel) → Does IsRemoved k (Ask s) answer after → IsDeadUntouched after
   ask_untouched IsRemoved s answer after (Does.Asks _ x op need left _ _ found planned asks) = requests s x found (ap is_active_stage planned) need.name need.mode need.duration (Planned op left) (NeedWait op) answer after asks
 
-  -- an operation, where an insertion brings the new entry alone
-  apply_untouched : (IsRemoved : Table → ℕ → Table → Type 0) (only : (e : Entry) (after : Table) → IsInserted k.tree e after → (f : Entry) → Among f (entries_of after) → (f ≡ e) ⊎ Among f (entries_in k)) (s : ℕ) (answer : Answer) (after : Kernel)
+  -- an operation
+  apply_untouched : (IsRemoved : Table → ℕ → Table → Type 0) (s : ℕ) (answer : Answer) (after : Kernel)
       → Does IsRemoved k (Apply s) answer after → IsDeadUntouched after
-  apply_untouched IsRemoved only s _ _ (Does.FullOfEntries _ x op found planned adds passes) = subst (λ (n : ℕ). DeadUntouched (staged n Idle k.sessions) (entries_in k)) (sym (found-among s k.sessions x found).1) (dead-staged s x found (ap is_active_stage planned) Idle)
-  apply_untouched IsRemoved only s _ _ (Does.FullOfNumbers _ x r after chosen found planned adds few inserts passes) = subst (λ (n : ℕ). DeadUntouched (staged n Idle k.sessions) (entries_in k)) (sym (found-among s k.sessions x found).1) (dead-staged s x found (ap is_active_stage planned) Idle)
-  apply_untouched IsRemoved only s _ _ (Does.FullOfReplies _ x op found planned passes) = subst (λ (n : ℕ). DeadUntouched (staged n Idle k.sessions) (entries_in k)) (sym (found-among s k.sessions x found).1) (dead-staged s x found (ap is_active_stage planned) Idle)
-  apply_untouched IsRemoved only s _ _ (Does.Applies _ x op found planned plain few) =
+  apply_untouched IsRemoved s _ _ (Does.FullOfEntries _ x op found planned adds passes) = subst (λ (n : ℕ). DeadUntouched (staged n Idle k.sessions) (entries_in k)) (sym (found-among s k.sessions x found).1) (dead-staged s x found (ap is_active_stage planned) Idle)
+  apply_untouched IsRemoved s _ _ (Does.FullOfNumbers _ x r after chosen found planned adds few inserts passes) = subst (λ (n : ℕ). DeadUntouched (staged n Idle k.sessions) (entries_in k)) (sym (found-among s k.sessions x found).1) (dead-staged s x found (ap is_active_stage planned) Idle)
+  apply_untouched IsRemoved s _ _ (Does.FullOfReplies _ x op found planned passes) = subst (λ (n : ℕ). DeadUntouched (staged n Idle k.sessions) (entries_in k)) (sym (found-among s k.sessions x found).1) (dead-staged s x found (ap is_active_stage planned) Idle)
+  apply_untouched IsRemoved s _ _ (Does.Applies _ x op found planned plain few) =
       let es = entries_in (record k { tree = table_with (marked_by x.txn.number op) k.tree }) in
       let change = lengthened op (replied op (view es x.txn.number)) in
       subst (λ (n : ℕ). DeadUntouched (staged n Idle (with_change n change k.sessions)) es) (sym (found-among s k.sessions x found).1)
       (dead-kept s x found (ap is_active_stage planned) Idle change es (λ z. refl) (λ z. refl)
       (subst (λ (fs : List Entry). (e : Entry) → Among e fs → is_done e.marks.ended ≡ true → (o : Entry) × Among o (entries_in k) × (is_done o.marks.ended ≡ true) × ((u : ℕ) → IsUntouched u o → IsUntouched u e))
       (sym (entries_of_with (marked_by x.txn.number op) (marks_keep x.txn.number op) k.tree)) (marked_dead x.txn.number op (entries_in k))))
-  apply_untouched IsRemoved only s _ _ (Does.Inserts_entry _ x r after chosen gifts found planned adds few inserts numbers given) =
+  apply_untouched IsRemoved s _ _ (Does.Inserts_entry _ x r after chosen gifts found planned adds few inserts numbers given) =
       let change = lengthened (Put r) (replied (Put r) (view (entries_of after) x.txn.number)) in
       subst (λ (n : ℕ). DeadUntouched (staged n Idle (with_change n change k.sessions)) (entries_of after)) (sym (found-among s k.sessions x found).1)
-      (dead-kept s x found (ap is_active_stage planned) Idle change (entries_of after) (λ z. refl) (λ z. refl) (λ e i d. old e d (only (fresh x.txn.number k.next_entry r) after inserts.inserted e i)))
+      (dead-kept s x found (ap is_active_stage planned) Idle change (entries_of after) (λ z. refl) (λ z. refl) (λ e i d. old e d (grown_only k.tree (fresh x.txn.number k.next_entry r) after inserts.inserted.grown e i)))
     where
       old : (e : Entry) → is_done e.marks.ended ≡ true → (e ≡ fresh x.txn.number k.next_entry r) ⊎ Among e (entries_in k) → (o : Entry) × Among o (entries_in k) × (is_done o.marks.ended ≡ true) × ((u : ℕ) → IsUntouched u o → IsUntouched u e)
       old e d (inl new) = absurd (true≢false (sym d ∙ ap (λ (z : Entry). is_done z.marks.ended) new))
@@ -241,16 +242,15 @@ flush_untouched IsRemoved k _ _ sound dead (Does.TakesOff none some) = dead
 flush_untouched IsRemoved k _ _ sound dead (Does.Writes some few) = dead
 flush_untouched IsRemoved k _ _ sound dead (Does.IsDurable some all) = each_untouched k k k.flight sound.dead (λ n i. i) (batch-sound k sound) dead
 
--- every event leaves dead entries untouched, where insertions bring the new entry alone
-pub does_untouched : (IsRemoved : Table → ℕ → Table → Type 0) → RemovesOne IsRemoved → ((t : Table) (e : Entry) (t' : Table) → IsValid t → IsInserted t e t' → (f : Entry) → Among f (entries_of t') → (f ≡ e) ⊎ Among f (entries_of t))
-    → (k : Kernel) (event : Event) (answer : Answer) (after : Kernel) → Sound k → IsDeadUntouched k → turned_away k event ≡ None → Does IsRemoved k event answer after → IsDeadUntouched after
-does_untouched IsRemoved removes only k (Begin s) answer after sound dead free does = begin_untouched k sound dead IsRemoved s answer after does
-does_untouched IsRemoved removes only k (Start s op) answer after sound dead free does = start_untouched k sound dead IsRemoved s op answer after free does
-does_untouched IsRemoved removes only k (AskName s) answer after sound dead free does = name_untouched k sound dead IsRemoved s answer after does
-does_untouched IsRemoved removes only k (Plan s) answer after sound dead free does = plan_untouched k sound dead IsRemoved s answer after does
-does_untouched IsRemoved removes only k (Ask s) answer after sound dead free does = ask_untouched k sound dead IsRemoved s answer after does
-does_untouched IsRemoved removes only k (Apply s) answer after sound dead free does = apply_untouched k sound dead IsRemoved (λ e t' inserted f i. only k.tree e t' sound.valid inserted f i) s answer after does
-does_untouched IsRemoved removes only k (AskCommit s) answer after sound dead free does = commit_untouched k sound dead IsRemoved s answer after does
-does_untouched IsRemoved removes only k (Rollback s) answer after sound dead free does = rollback_untouched k sound dead IsRemoved s answer after free does
-does_untouched IsRemoved removes only k Flush answer after sound dead free does = flush_untouched IsRemoved k answer after sound dead does
-does_untouched IsRemoved removes only k Clean answer after sound dead free does = clean_untouched k sound dead IsRemoved answer after removes does
+-- every event leaves dead entries untouched
+pub does_untouched : (IsRemoved : Table → ℕ → Table → Type 0) → RemovesOne IsRemoved → (k : Kernel) (event : Event) (answer : Answer) (after : Kernel) → Sound k → IsDeadUntouched k → turned_away k event ≡ None → Does IsRemoved k event answer after → IsDeadUntouched after
+does_untouched IsRemoved removes k (Begin s) answer after sound dead free does = begin_untouched k sound dead IsRemoved s answer after does
+does_untouched IsRemoved removes k (Start s op) answer after sound dead free does = start_untouched k sound dead IsRemoved s op answer after free does
+does_untouched IsRemoved removes k (AskName s) answer after sound dead free does = name_untouched k sound dead IsRemoved s answer after does
+does_untouched IsRemoved removes k (Plan s) answer after sound dead free does = plan_untouched k sound dead IsRemoved s answer after does
+does_untouched IsRemoved removes k (Ask s) answer after sound dead free does = ask_untouched k sound dead IsRemoved s answer after does
+does_untouched IsRemoved removes k (Apply s) answer after sound dead free does = apply_untouched k sound dead IsRemoved s answer after does
+does_untouched IsRemoved removes k (AskCommit s) answer after sound dead free does = commit_untouched k sound dead IsRemoved s answer after does
+does_untouched IsRemoved removes k (Rollback s) answer after sound dead free does = rollback_untouched k sound dead IsRemoved s answer after free does
+does_untouched IsRemoved removes k Flush answer after sound dead free does = flush_untouched IsRemoved k answer after sound dead does
+does_untouched IsRemoved removes k Clean answer after sound dead free does = clean_untouched k sound dead IsRemoved answer after removes does

@@ -24,3 +24,4 @@ pub mod UpToLast
 pub mod Stepping
 pub mod Untouched
 pub mod Dying
+pub mod Entering
