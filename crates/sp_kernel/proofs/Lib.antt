@@ -25,3 +25,4 @@ pub mod Stepping
 pub mod Untouched
 pub mod Dying
 pub mod Entering
+pub mod OneByOne
