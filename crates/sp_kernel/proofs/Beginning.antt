@@ -5,8 +5,6 @@ use Rattle.std.specs.List.{AllByRecursion, IsDistinct, sum_by}
 use Rattle.std.proofs.lemmas.Bool.Decides.{nat_tests}
 use Rattle.std.proofs.lemmas.Map.Keys.{IsDistinct-head, IsDistinct-tail, IsDistinct-cons}
 use Rattle.sp_rect.specs.declared.operation.Answered.{Answered}
-use Rattle.sp_rect.specs.declared.operation.Op.{Op}
-use Rattle.sp_locks.specs.declared.needs.Need.{Need}
 use Rattle.sp_node.specs.declared.marks.Draft.{Draft}
 use Rattle.sp_node.specs.declared.marks.Draft.TheVariants.{None as NoDraft, Of}
 use Rattle.sp_node.specs.declared.node.Entry.{Entry}
@@ -23,10 +21,10 @@ use Rattle.sp_kernel.specs.declared.session.Stage.TheVariants.{Idle, Started, Na
 use Rattle.sp_kernel.specs.State.{Kernel, entries_in, is_active, with_session, searched, locks_of}
 use Rattle.sp_kernel.specs.Refusals.{open_transactions, open_operations, kept_operations, most_transactions, most_endings, most_operations, most_history, first_unused, under_way, turned_away}
 use Rattle.sp_kernel.specs.Moves.{begun}
-use Rattle.sp_kernel.specs.Plans.{HasNeeds, Stays, Adds}
 use Rattle.sp_kernel.specs.Stepped.{records_told, most_records_told}
 use Rattle.sp_kernel.specs.Soundness.{AreAscending, SharesLatch, HoldsObject, HoldsStage, is_queued, Sound}
 use Rattle.sp_kernel.proofs.Sessions.{none-among, of_with, among-with}
+use Rattle.sp_kernel.proofs.Planned.{stage_stays}
 use Rattle.sp_kernel.proofs.Holding.{HoldsStill, rows-stay, met-held, locks-still, parts-still, marks_owned-still}
 use Rattle.sp_kernel.proofs.Counting.{length-sum, with-sum}
 use Rattle.sp_kernel.proofs.Turned.{MayBegin, may_begin}
@@ -102,32 +100,6 @@ unmarked-sees t es unused = ap sorted (show_alike is_live (is_visible t) record_
         none : (d : Draft) → is_draft_of t d ≡ false → drafted t d e.value ≡ e.value
         none NoDraft h = refl
         none (Of u draft) h = ap (λ (b : Bool). cond b draft e.value) h
-
--- what a session is at speaks of no numbers and sessions
-begun-stage : (k : Kernel) (s : ℕ) (y : Session) (stage : Stage) → HoldsStage k y stage → HoldsStage (begun s k) y stage
-begun-stage k s y Idle h = h
-begun-stage k s y (Started op) h = h
-begun-stage k s y (NameWait op) h = h
-begun-stage k s y (Named op) h = h
-begun-stage k s y (NeedWait op) h = h
-begun-stage k s y (Planned op left) h = (
-  h.0,
-  record {
-    commit = h.1.commit;
-    short = h.1.short;
-    needs = same op h.1.commit h.1.short h.1.needs;
-    commit_met = h.1.commit_met;
-    short_met = h.1.short_met;
-    only = h.1.only;
-    in_order = h.1.in_order;
-  },
-)
-  where
-    same : (op : Op) (commit short : List Need) → HasNeeds k y op commit short → HasNeeds (begun s k) y op commit short
-    same _ _ _ (Stays op commit none needs) = Stays op commit none needs
-    same _ _ _ (Adds r after chosen commit short some inserts wanted wanted_short) = Adds r after chosen commit short some (record { inserted = inserts.inserted; reaches = inserts.reaches }) wanted wanted_short
-begun-stage k s y Queued h = h
-begun-stage k s y Placed h = h
 
 pub begin-sound : (k : Kernel) (s : ℕ) → Sound k → turned_away k (Begin s) ≡ None → Sound (begun s k)
 begin-sound k s sound let_in = record {
@@ -253,7 +225,7 @@ begin-sound k s sound let_in = record {
 
     stages : (y : Session) → (y ≡ x) ⊎ Among y k.sessions → HoldsStage (begun s k) y y.stage
     stages y (inl e) = subst (λ (z : Session). HoldsStage (begun s k) z z.stage) (sym e) tt
-    stages y (inr i) = begun-stage k s y y.stage (sound.stages y i)
+    stages y (inr i) = stage_stays k (begun s k) y y.stage refl refl (rows-stay y.txn.session k.locks k.locks (λ row j w. j)) (λ op h. h) (sound.stages y i)
 
     rectangles : (y : Session) → is_active y ≡ true → (y ≡ x) ⊎ Among y k.sessions → HasRectangles y.txn.ops
     rectangles y a (inl e) = subst (λ (z : Session). HasRectangles z.txn.ops) (sym e) (λ pair rect i p. absurd i)

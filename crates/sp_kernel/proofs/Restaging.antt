@@ -1,5 +1,5 @@
 -- A change of one session's stage and of the rows alone keeps a kernel sound.
-use Rattle.std.proofs.Common.{◌≡◌, ◌≢◌, ◌⊎◌, ℕ, ◌<◌, ◌≤◌, true, false, cond, List, [], ◌∷◌, ◌++◌, map, length, nat_eq, refl, sym, ap, ap₂, ◌∙◌, subst, inl, inr, true≢false}
+use Rattle.std.proofs.Common.{◌≡◌, ◌≢◌, ℕ, ◌<◌, ◌≤◌, true, false, cond, List, [], ◌∷◌, ◌++◌, map, length, nat_eq, refl, sym, ap, ap₂, ◌∙◌, subst, true≢false}
 use Rattle.std.specs.List.{AllByRecursion, IsDistinct}
 use Rattle.sp_rect.specs.declared.operation.Op.{Op}
 use Rattle.sp_rect.specs.declared.operation.Answered.{Answered}
@@ -13,12 +13,12 @@ use Rattle.sp_protection.specs.Replays.{Replays, HoldsParts, HasRectangles}
 use Rattle.sp_protection.proofs.Leaves.{among_map}
 use Rattle.sp_kernel.specs.declared.session.Session.{Session}
 use Rattle.sp_kernel.specs.declared.session.Stage.{Stage}
-use Rattle.sp_kernel.specs.declared.session.Stage.TheVariants.{Idle, Started, NameWait, Named, NeedWait, Planned, Queued, Placed}
 use Rattle.sp_kernel.specs.State.{Kernel, entries_in, is_active, is_active_stage, is_session, with_change, at_stage, staged, searched, locks_of}
-use Rattle.sp_kernel.specs.Plans.{HasNeeds, Stays as Needs_stay, Adds, is_held}
-use Rattle.sp_kernel.specs.Soundness.{AreAscending, SoundSessions, RowsOwned, NamesUsed, SharesLatch, LatchShared, HoldsObject, AwaitsObject, is_met, HoldsStage, is_queued, QueueSound, WithinCounts, Sound}
+use Rattle.sp_kernel.specs.Plans.{HasNeeds, Stays as Needs_stay, Adds}
+use Rattle.sp_kernel.specs.Soundness.{AreAscending, SoundSessions, RowsOwned, NamesUsed, SharesLatch, LatchShared, HoldsObject, AwaitsObject, HoldsStage, is_queued, QueueSound, WithinCounts, Sound}
 use Rattle.sp_kernel.proofs.Sessions.{Fate, Changes, Stays, fate, of_change, others-among, one-session}
-use Rattle.sp_kernel.proofs.Holding.{StayMet, StayHeld, met-held, held-stays, met-stays, object-stays, StayThere, HoldsStill, locks-still, parts-still, marks_owned-still}
+use Rattle.sp_kernel.proofs.Planned.{stage_stays}
+use Rattle.sp_kernel.proofs.Holding.{StayMet, StayHeld, object-stays, StayThere, HoldsStill, locks-still, parts-still, marks_owned-still}
 
 -- the kernel with these sessions and rows
 abbrev pub with_both : List Session → List Row → Kernel → Kernel
@@ -28,41 +28,6 @@ with_both xs rows k = record k { sessions = xs; locks = rows }
 pub needs-still : (k : Kernel) (xs : List Session) (rows : List Row) (x : Session) (stage : Stage) (op : Op) (commit short : List Need) → HasNeeds k x op commit short → HasNeeds (with_both xs rows k) (at_stage stage x) op commit short
 needs-still k xs rows x stage _ _ _ (Needs_stay op commit none needs) = Needs_stay op commit none needs
 needs-still k xs rows x stage _ _ _ (Adds r after chosen commit short some inserts wanted wanted_short) = Adds r after chosen commit short some (record { inserted = inserts.inserted; reaches = inserts.reaches }) wanted wanted_short
-
-needs-other : (k : Kernel) (xs : List Session) (rows : List Row) (x : Session) (op : Op) (commit short : List Need) → HasNeeds k x op commit short → HasNeeds (with_both xs rows k) x op commit short
-needs-other k xs rows x _ _ _ (Needs_stay op commit none needs) = Needs_stay op commit none needs
-needs-other k xs rows x _ _ _ (Adds r after chosen commit short some inserts wanted wanted_short) = Adds r after chosen commit short some (record { inserted = inserts.inserted; reaches = inserts.reaches }) wanted wanted_short
-
--- what another session is at stays
-pub others-stage : (k : Kernel) (xs : List Session) (rows : List Row) (y : Session) → StayMet y.txn.session k.locks rows → ((op : Op) → AwaitsObject k.locks y.txn.session op → AwaitsObject rows y.txn.session op)
-    → (stage : Stage) → HoldsStage k y stage → HoldsStage (with_both xs rows k) y stage
-others-stage k xs rows y stay awaits Idle h = h
-others-stage k xs rows y stay awaits (Started op) h = h
-others-stage k xs rows y stay awaits (NameWait op) h = awaits op h
-others-stage k xs rows y stay awaits (Named op) h = object-stays y.txn.session k.locks rows (met-held y.txn.session k.locks rows stay) op h
-others-stage k xs rows y stay awaits (NeedWait op) h = object-stays y.txn.session k.locks rows (met-held y.txn.session k.locks rows stay) op h
-others-stage k xs rows y stay awaits (Planned op left) h = (
-  object-stays y.txn.session k.locks rows (met-held y.txn.session k.locks rows stay) op h.0,
-  record {
-    commit = h.1.commit;
-    short = h.1.short;
-    needs = needs-other k xs rows y op h.1.commit h.1.short h.1.needs;
-    commit_met = λ need i. held need (h.1.commit_met need i);
-    short_met = λ need i c. met need (h.1.short_met need i c);
-    only = h.1.only;
-    in_order = h.1.in_order;
-  },
-)
-  where
-    held : (need : Need) → (is_held k.locks y.txn.session need ≡ true) ⊎ Among need left → (is_held rows y.txn.session need ≡ true) ⊎ Among need left
-    held need (inl a) = inl (held-stays y.txn.session k.locks rows (met-held y.txn.session k.locks rows stay) need a)
-    held need (inr b) = inr b
-
-    met : (need : Need) → (is_met k.locks y.txn.session need ≡ true) ⊎ Among need left → (is_met rows y.txn.session need ≡ true) ⊎ Among need left
-    met need (inl a) = inl (met-stays y.txn.session k.locks rows stay need a)
-    met need (inr b) = inr b
-others-stage k xs rows y stay awaits Queued h = h
-others-stage k xs rows y stay awaits Placed h = h
 
 -- one session changes, and keeps its transaction's number, session and count of places
 pub record KeepsTxn (change : Session → Session) : Type 0 where
@@ -212,7 +177,7 @@ restaged-sound k x stage rows sound fits = record {
 
     stages : (z y : Session) → Among z k.sessions → Fate s (at_stage stage) z y → HoldsStage (with_both xs rows k) y y.stage
     stages z _ j (Changes e) = subst (λ (w : Session). HoldsStage (with_both xs rows k) (at_stage stage w) stage) (sym (same z j e)) fits.at
-    stages z _ j (Stays e) = others-stage k xs rows z (fits.met z j e) (λ op. fits.awaits z op j e) z.stage (sound.stages z j)
+    stages z _ j (Stays e) = stage_stays k (with_both xs rows k) z z.stage refl refl (fits.met z j e) (λ op. fits.awaits z op j e) (sound.stages z j)
 
     rectangles : (z y : Session) → Among z k.sessions → Fate s (at_stage stage) z y → is_active y ≡ true → HasRectangles y.txn.ops
     rectangles z _ j (Changes e) a = sound.rectangles z j (was-active z j e)
