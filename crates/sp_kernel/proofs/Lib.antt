@@ -26,3 +26,4 @@ pub mod Untouched
 pub mod Dying
 pub mod Entering
 pub mod OneByOne
+pub mod Finishing

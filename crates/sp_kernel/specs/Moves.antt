@@ -117,11 +117,11 @@ finished x k = let_short_go x.txn.session (with_stage x.txn.session Idle k)
 
 -- an operation that adds no entry: it reads, or it marks what it sees
 abbrev pub marked : Session → Op → Kernel → Kernel
-marked x op k = finished x (kept x op (record k { tree = table_with (marked_by x.txn.number op) k.tree }))
+marked x op k = finished x (record (kept x op k) { tree = table_with (marked_by x.txn.number op) k.tree })
 
 -- an operation that adds an entry, with the tree and the locks on new granules that it leaves
 abbrev pub inserted : Session → Op → Table → List Need → Kernel → Kernel
-inserted x op after gifts k = finished x (kept x op (record k { tree = after; next_entry = k.next_entry + 1; locks = k.locks ++ given x.txn.session gifts }))
+inserted x op after gifts k = finished x (record (kept x op k) { tree = after; next_entry = k.next_entry + 1; locks = k.locks ++ given x.txn.session gifts })
 
 -- the first dead entry leaves the tree, or goes to the end of the list
 abbrev pub cleaned : Table → List ℕ → Kernel → Kernel

@@ -10,3 +10,5 @@ pub mod Insertions
 pub mod Wanted
 pub mod Rules
 pub mod Marking
+pub mod Places
+pub mod Removals

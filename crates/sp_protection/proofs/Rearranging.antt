@@ -43,7 +43,7 @@ filter_nothing : (test : Entry → Bool) (es : List Entry) → ((e : Entry) → 
 filter_nothing test [] none = refl
 filter_nothing test (e ∷ es) none = rw (none e (inl refl)) (filter_nothing test es (λ x i. none x (inr i)))
 
-first_distinct : (n : ℕ) (ns : List ℕ) → IsDistinct nat_eq (n ∷ ns) → AllByRecursion (λ y. nat_eq n y ≡ false) ns × IsDistinct nat_eq ns
+pub first_distinct : (n : ℕ) (ns : List ℕ) → IsDistinct nat_eq (n ∷ ns) → AllByRecursion (λ y. nat_eq n y ≡ false) ns × IsDistinct nat_eq ns
 unfolding IsDistinct
 first_distinct n ns d = d
 

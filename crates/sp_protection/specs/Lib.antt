@@ -7,3 +7,4 @@ pub mod Apart
 pub mod Replays
 pub mod Insertion
 pub mod Asking
+pub mod Removal
