@@ -182,13 +182,13 @@ module _ (k : Kernel) (sound : Sound k) (dead : IsDeadUntouched k) where
   apply_untouched IsRemoved s _ _ (Does.FullOfReplies _ x op found planned passes) = subst (λ (n : ℕ). DeadUntouched (staged n Idle k.sessions) (entries_in k)) (sym (found-among s k.sessions x found).1) (dead-staged s x found (ap is_active_stage planned) Idle)
   apply_untouched IsRemoved s _ _ (Does.Applies _ x op found planned plain few) =
       let es = entries_in (record k { tree = table_with (marked_by x.txn.number op) k.tree }) in
-      let change = lengthened op (replied op (view es x.txn.number)) in
+      let change = lengthened op (reply_of k x op) in
       subst (λ (n : ℕ). DeadUntouched (staged n Idle (with_change n change k.sessions)) es) (sym (found-among s k.sessions x found).1)
       (dead-kept s x found (ap is_active_stage planned) Idle change es (λ z. refl) (λ z. refl)
       (subst (λ (fs : List Entry). (e : Entry) → Among e fs → is_done e.marks.ended ≡ true → (o : Entry) × Among o (entries_in k) × (is_done o.marks.ended ≡ true) × ((u : ℕ) → IsUntouched u o → IsUntouched u e))
       (sym (entries_of_with (marked_by x.txn.number op) (marks_keep x.txn.number op) k.tree)) (marked_dead x.txn.number op (entries_in k))))
   apply_untouched IsRemoved s _ _ (Does.Inserts_entry _ x r after chosen gifts found planned adds few inserts numbers given) =
-      let change = lengthened (Put r) (replied (Put r) (view (entries_of after) x.txn.number)) in
+      let change = lengthened (Put r) (reply_of k x (Put r)) in
       subst (λ (n : ℕ). DeadUntouched (staged n Idle (with_change n change k.sessions)) (entries_of after)) (sym (found-among s k.sessions x found).1)
       (dead-kept s x found (ap is_active_stage planned) Idle change (entries_of after) (λ z. refl) (λ z. refl) (λ e i d. old e d (grown_only k.tree (fresh x.txn.number k.next_entry r) after inserts.inserted.grown e i)))
     where

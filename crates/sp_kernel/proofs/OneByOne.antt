@@ -62,9 +62,9 @@ tree_alike f g t v same = ap (λ (ns : List (ℕ × Node)). record { shape = t.s
     each : (n : ℕ × Node) → Among n t.nodes → node_with f n.1 ≡ node_with g n.1
     each n i = elim (node_of_number t v n.0) [
       | inl p ↦
-        let is : node p.0.level p.0.body ≡ n.1 = some _ _ (sym p.3 ∙ found_there t.nodes (keys_distinct t v) n i) in
-        subst (λ (m : Node). node_with f m ≡ node_with g m) is
-        (node_alike f g (node p.0.level p.0.body) (λ e j. same e (subst (Among e) (own_all t v) (among_flat_map own e p.0 (places_of t) p.1 j))))
+          let is : node p.0.level p.0.body ≡ n.1 = some _ _ (sym p.3 ∙ found_there t.nodes (keys_distinct t v) n i) in
+          subst (λ (m : Node). node_with f m ≡ node_with g m) is
+          (node_alike f g (node p.0.level p.0.body) (λ e j. same e (subst (Among e) (own_all t v) (among_flat_map own e p.0 (places_of t) p.1 j))))
       | inr q ↦ absurd (none _ (sym q.1 ∙ found_there t.nodes (keys_distinct t v) n i))
     ]
 
