@@ -1,19 +1,20 @@
 -- Every event leaves nothing of an active transaction on a dead entry.
-use Rattle.std.proofs.Common.{◌≡◌, ◌≢◌, ◌⊎◌, ℕ, ◌≤◌, Bool, true, false, not, cond, ◌&&◌, ◌||◌, List, [], ◌∷◌, ◌++◌, map, Option, None, Some, refl, sym, ap, ◌∙◌, subst, inl, inr, true≢false, arith}
+use Rattle.std.proofs.Common.{◌≡◌, ◌≢◌, ◌⊎◌, ℕ, ◌≤◌, Bool, true, false, not, cond, ◌&&◌, ◌||◌, List, [], ◌∷◌, ◌++◌, map, length, Option, None, Some, refl, sym, ap, ◌∙◌, subst, inl, inr, true≢false, arith}
 use Rattle.sp_rect.specs.declared.record.Record.{Record}
 use Rattle.sp_rect.specs.declared.operation.Op.{Op}
 use Rattle.sp_rect.specs.declared.operation.Op.TheVariants.{Put, Drop, Set, Get, Find, Fill, Clear}
-use Rattle.sp_rect.specs.Store.{Part, Id, Area, touches}
+use Rattle.sp_rect.specs.Store.{Part, Id, Area, touches, replied}
 use Rattle.sp_locks.specs.declared.mode.Mode.{Mode}
 use Rattle.sp_locks.specs.declared.row.Name.{Name}
 use Rattle.sp_locks.specs.declared.row.Duration.{Duration}
+use Rattle.sp_locks.specs.declared.row.Duration.TheVariants.{Commit as ToTheEnd}
 use Rattle.sp_node.specs.declared.node.Entry.{Entry}
 use Rattle.sp_node.specs.Among.{Among}
-use Rattle.sp_node.specs.Change.{Keeps}
+use Rattle.sp_node.specs.Change.{table_with, Keeps}
 use Rattle.sp_node.specs.Marks.{is_committed, is_made_by, is_ended_by, is_done, marked, settled, undone}
 use Rattle.sp_node.specs.Table.{Table, IsValid, entries_of}
 use Rattle.sp_node.proofs.Changed.{entries_of_with}
-use Rattle.sp_txn.specs.Visible.{is_visible, record_for}
+use Rattle.sp_txn.specs.Visible.{is_visible, record_for, view}
 use Rattle.sp_event.specs.declared.event.Event.{Event}
 use Rattle.sp_event.specs.declared.event.Event.TheVariants.{Begin, Start, Name as AskName, Plan, Ask, Apply, Commit as AskCommit, Flush, Rollback, Clean}
 use Rattle.sp_event.specs.declared.answer.Answer.{Answer}
@@ -22,10 +23,10 @@ use Rattle.sp_protection.proofs.Leaves.{from_map}
 use Rattle.sp_kernel.specs.declared.session.Session.{Session}
 use Rattle.sp_kernel.specs.declared.session.Stage.{Stage}
 use Rattle.sp_kernel.specs.declared.session.Stage.TheVariants.{Idle, Started, NameWait, Named, NeedWait, Planned, Queued, Placed}
-use Rattle.sp_kernel.specs.State.{Kernel, entries_in, is_active, is_active_stage, is_session, session_at, sessions_without, with_change, at_stage, staged}
+use Rattle.sp_kernel.specs.State.{Kernel, entries_in, is_active, is_active_stage, is_session, session_at, sessions_without, with_session, with_change, at_stage, staged}
 use Rattle.sp_kernel.specs.Refusals.{refusal, turned_away}
 use Rattle.sp_kernel.specs.Moves.{Requests, lengthened, placed_found, placed_each}
-use Rattle.sp_kernel.specs.Plans.{IsInserted}
+use Rattle.sp_kernel.specs.Plans.{IsInserted, left_to_ask}
 use Rattle.sp_kernel.specs.Removal.{RemovesOne}
 use Rattle.sp_kernel.specs.Stepped.{Does, IsAt, reply_of}
 use Rattle.sp_kernel.specs.Unmarked.{IsUntouched, DeadUntouched, IsDeadUntouched}
@@ -33,8 +34,10 @@ use Rattle.sp_kernel.specs.Soundness.{DeadListed, is_queued, Sound}
 use Rattle.sp_kernel.proofs.Sessions.{one-session, found-among, none-among, Fate, Changes, Stays, of_change, of_without, of_with}
 use Rattle.sp_kernel.proofs.Turned.{is_let, may_start}
 use Rattle.sp_kernel.proofs.Dead.{StayDead}
+use Rattle.sp_kernel.proofs.Entering.{grown_only}
 use Rattle.sp_kernel.proofs.Settling.{undone-keeps, settled-keeps, undone-free, settled-free}
-use Rattle.sp_kernel.proofs.Flushing.{as_if, place_next}
+use Rattle.sp_kernel.proofs.Ends.{rollback-active}
+use Rattle.sp_kernel.proofs.Flushing.{as_if, batch-sound, place_next}
 use Rattle.sp_kernel.proofs.Untouched.{untouched-from, untouched-ended, undone-newly, settled-newly}
 
 -- an active session that changes was one before
@@ -141,3 +144,113 @@ module _ (k : Kernel) (sound : Sound k) (dead : IsDeadUntouched k) where
     requests name mode duration granted waits _ _ (Requests.IsGranted free) = subst (λ (n : ℕ). DeadUntouched (staged n granted k.sessions) (entries_in k)) (sym named) (dead-staged granted)
     requests name mode duration granted waits _ _ (Requests.HasToWait some told) = subst (λ (n : ℕ). DeadUntouched (staged n waits k.sessions) (entries_in k)) (sym named) (dead-staged waits)
     requests name mode duration granted waits _ _ (Requests.ClosesCycle cycle some told) = subst (DeadUntouched (sessions_without x.txn.session k.sessions)) (sym (entries_of_with (undone x.txn.number) (undone-keeps x.txn.number) k.tree)) dead-undone
+
+  -- a begin: its number is on no entry
+  dead-begun : (new : Session) → new.txn.number ≡ k.next_txn → DeadUntouched (with_session new k.sessions) (entries_in k)
+  dead-begun new number y e i active j d = go (of_with new k.sessions y i)
+    where
+      go : (y ≡ new) ⊎ Among y k.sessions → IsUntouched y.txn.number e
+      go (inl same) = sound.numbers y.txn.number e (subst (λ (n : ℕ). k.next_txn ≤ n) (sym (ap (λ (z : Session). z.txn.number) same ∙ number)) (omega arith)) j
+      go (inr old) = dead y e old active j d
+
+  begin_untouched : (IsRemoved : Table → ℕ → Table → Type 0) (s : ℕ) (answer : Answer) (after : Kernel) → Does IsRemoved k (Begin s) answer after → IsDeadUntouched after
+  begin_untouched IsRemoved s _ _ (Does.Begins _) = dead-begun (record { txn = record { number = k.next_txn; session = s; seen = length k.commits; ops = []; searches = [] }; stage = Idle }) refl
+
+  start_untouched : (IsRemoved : Table → ℕ → Table → Type 0) (s : ℕ) (op : Op) (answer : Answer) (after : Kernel) → turned_away k (Start s op) ≡ None → Does IsRemoved k (Start s op) answer after → IsDeadUntouched after
+  start_untouched IsRemoved s op _ _ free (Does.Starts _ x _ found) = dead-staged s x found (ap is_active_stage (may_start k s op x found free).idle) (Started op)
+
+  name_untouched : (IsRemoved : Table → ℕ → Table → Type 0) (s : ℕ) (answer : Answer) (after : Kernel) → Does IsRemoved k (AskName s) answer after → IsDeadUntouched after
+  name_untouched IsRemoved s _ _ (Does.NamesNothing _ x op found started none) = dead-staged s x found (ap is_active_stage started) (Named op)
+  name_untouched IsRemoved s answer after (Does.Names _ x op name mode _ _ found started asked asks) = requests s x found (ap is_active_stage started) name mode ToTheEnd (Named op) (NameWait op) answer after asks
+  name_untouched IsRemoved s _ _ (Does.HasWaited _ x op found waited) = dead-staged s x found (ap is_active_stage waited) (Named op)
+
+  plan_untouched : (IsRemoved : Table → ℕ → Table → Type 0) (s : ℕ) (answer : Answer) (after : Kernel) → Does IsRemoved k (Plan s) answer after → IsDeadUntouched after
+  plan_untouched IsRemoved s _ _ (Does.Plans _ x op commit short found named needs) = dead-staged s x found (active named) (Planned op (left_to_ask k.locks s commit short))
+    where
+      active : (x.stage ≡ Named op) ⊎ (x.stage ≡ NeedWait op) → is_active x ≡ true
+      active (inl e) = ap is_active_stage e
+      active (inr e) = ap is_active_stage e
+
+  ask_untouched : (IsRemoved : Table → ℕ → Table → Type 0) (s : ℕ) (answer : Answer) (after : Kernel) → Does IsRemoved k (Ask s) answer after → IsDeadUntouched after
+  ask_untouched IsRemoved s answer after (Does.Asks _ x op need left _ _ found planned asks) = requests s x found (ap is_active_stage planned) need.name need.mode need.duration (Planned op left) (NeedWait op) answer after asks
+
+  -- an operation
+  apply_untouched : (IsRemoved : Table → ℕ → Table → Type 0) (s : ℕ) (answer : Answer) (after : Kernel)
+      → Does IsRemoved k (Apply s) answer after → IsDeadUntouched after
+  apply_untouched IsRemoved s _ _ (Does.FullOfEntries _ x op found planned adds passes) = subst (λ (n : ℕ). DeadUntouched (staged n Idle k.sessions) (entries_in k)) (sym (found-among s k.sessions x found).1) (dead-staged s x found (ap is_active_stage planned) Idle)
+  apply_untouched IsRemoved s _ _ (Does.FullOfNumbers _ x r after chosen found planned adds few inserts passes) = subst (λ (n : ℕ). DeadUntouched (staged n Idle k.sessions) (entries_in k)) (sym (found-among s k.sessions x found).1) (dead-staged s x found (ap is_active_stage planned) Idle)
+  apply_untouched IsRemoved s _ _ (Does.FullOfReplies _ x op found planned passes) = subst (λ (n : ℕ). DeadUntouched (staged n Idle k.sessions) (entries_in k)) (sym (found-among s k.sessions x found).1) (dead-staged s x found (ap is_active_stage planned) Idle)
+  apply_untouched IsRemoved s _ _ (Does.Applies _ x op found planned plain few) =
+      let es = entries_in (record k { tree = table_with (marked_by x.txn.number op) k.tree }) in
+      let change = lengthened op (reply_of k x op) in
+      subst (λ (n : ℕ). DeadUntouched (staged n Idle (with_change n change k.sessions)) es) (sym (found-among s k.sessions x found).1)
+      (dead-kept s x found (ap is_active_stage planned) Idle change es (λ z. refl) (λ z. refl)
+      (subst (λ (fs : List Entry). (e : Entry) → Among e fs → is_done e.marks.ended ≡ true → (o : Entry) × Among o (entries_in k) × (is_done o.marks.ended ≡ true) × ((u : ℕ) → IsUntouched u o → IsUntouched u e))
+      (sym (entries_of_with (marked_by x.txn.number op) (marks_keep x.txn.number op) k.tree)) (marked_dead x.txn.number op (entries_in k))))
+  apply_untouched IsRemoved s _ _ (Does.Inserts_entry _ x r after chosen gifts found planned adds few inserts numbers given) =
+      let change = lengthened (Put r) (reply_of k x (Put r)) in
+      subst (λ (n : ℕ). DeadUntouched (staged n Idle (with_change n change k.sessions)) (entries_of after)) (sym (found-among s k.sessions x found).1)
+      (dead-kept s x found (ap is_active_stage planned) Idle change (entries_of after) (λ z. refl) (λ z. refl) (λ e i d. old e d (grown_only k.tree (fresh x.txn.number k.next_entry r) after inserts.inserted.grown e i)))
+    where
+      old : (e : Entry) → is_done e.marks.ended ≡ true → (e ≡ fresh x.txn.number k.next_entry r) ⊎ Among e (entries_in k) → (o : Entry) × Among o (entries_in k) × (is_done o.marks.ended ≡ true) × ((u : ℕ) → IsUntouched u o → IsUntouched u e)
+      old e d (inl new) = absurd (true≢false (sym d ∙ ap (λ (z : Entry). is_done z.marks.ended) new))
+      old e d (inr i) = (e, i, d, λ u h. h)
+
+  commit_untouched : (IsRemoved : Table → ℕ → Table → Type 0) (s : ℕ) (answer : Answer) (after : Kernel) → Does IsRemoved k (AskCommit s) answer after → IsDeadUntouched after
+  commit_untouched IsRemoved s _ _ (Does.Commits _ x found idle none) =
+      subst (DeadUntouched (sessions_without x.txn.session k.sessions)) (sym (entries_of_with (settled x.txn.number) (settled-keeps x.txn.number) k.tree)) (dead-settled s x found (ap is_active_stage idle))
+  commit_untouched IsRemoved s _ _ (Does.JoinsQueue _ x found idle some) = dead-staged s x found (ap is_active_stage idle) Queued
+  commit_untouched IsRemoved s _ _ (Does.StaysQueued _ x found queued) = dead
+  commit_untouched IsRemoved s _ _ (Does.TellsPlace _ x found placed) = λ y e i active j d. dead y e (of_without s k.sessions y i).0 active j d
+
+  rollback_untouched : (IsRemoved : Table → ℕ → Table → Type 0) (s : ℕ) (answer : Answer) (after : Kernel) → turned_away k (Rollback s) ≡ None → Does IsRemoved k (Rollback s) answer after → IsDeadUntouched after
+  rollback_untouched IsRemoved s _ _ free (Does.RollsBack _ x found) =
+      subst (DeadUntouched (sessions_without x.txn.session k.sessions)) (sym (entries_of_with (undone x.txn.number) (undone-keeps x.txn.number) k.tree))
+      (dead-undone s x found (rollback-active x.stage (subst (λ (o : Option Session). refusal (Rollback s) o ≡ None) found (is_let k (Rollback s) free).refusal)).0)
+
+  clean_untouched : (IsRemoved : Table → ℕ → Table → Type 0) (answer : Answer) (after : Kernel) → RemovesOne IsRemoved → Does IsRemoved k Clean answer after → IsDeadUntouched after
+  clean_untouched IsRemoved _ _ removes (Does.CleansNothing none) = dead
+  clean_untouched IsRemoved _ _ removes (Does.CleanIsFull n rest after first removed full more) = dead
+  clean_untouched IsRemoved _ _ removes (Does.Cleans n rest after short may unopposed) = λ y e i active j d.
+      dead y e i active ((removes k.tree n after sound.valid sound.ascending sound.counts.node_numbers may.removed).back e j).0 d
+  clean_untouched IsRemoved _ _ removes (Does.PutsOff n rest after short granule holder mode may off) = dead
+
+-- one commit of the batch takes its place
+next_untouched : (k0 k : Kernel) (s : ℕ) (rest : List ℕ) → Sound (as_if k0 (s ∷ rest) k) → IsDeadUntouched k → IsDeadUntouched (placed_found (session_at s k.sessions) k)
+next_untouched k0 k s rest sound dead = go (session_at s k.sessions) refl
+  where
+    go : (o : Option Session) → session_at s k.sessions ≡ o → IsDeadUntouched (placed_found o k)
+    go None e = dead
+    go (Some x) e =
+        subst (DeadUntouched (staged x.txn.session Placed k.sessions)) (sym (entries_of_with (settled x.txn.number) (settled-keeps x.txn.number) k.tree))
+        (untouched-ended (as_if k0 (s ∷ rest) k) x (settled x.txn.number) sound (found-among s k.sessions x e).0 dead (settled-free x.txn.number) (settled-newly x.txn.number) (staged x.txn.session Placed k.sessions)
+        (λ y i a. let o = of_change x.txn.session (at_stage Placed) k.sessions y i in other x o.old y o.stood o.how a))
+      where
+        other : (x z y : Session) → Among z k.sessions → Fate x.txn.session (at_stage Placed) z y → is_active y ≡ true → Among y k.sessions × (y.txn.session ≢ x.txn.session)
+        other x z _ j (Changes e) a = absurd (true≢false (sym a))
+        other x z _ j (Stays e) a = (j, e)
+
+each_untouched : (k0 k : Kernel) (batch : List ℕ) → DeadListed k0.dead (entries_in k0) → StayDead (entries_in k0) (entries_in k) → Sound (as_if k0 batch k) → IsDeadUntouched k → IsDeadUntouched (placed_each batch k)
+each_untouched k0 k [] listed stay sound dead = dead
+each_untouched k0 k (s ∷ rest) listed stay sound dead =
+    let p = place_next k0 k s rest listed stay sound in
+    each_untouched k0 (placed_found (session_at s k.sessions) k) rest listed p.1 p.0 (next_untouched k0 k s rest sound dead)
+
+flush_untouched : (IsRemoved : Table → ℕ → Table → Type 0) (k : Kernel) (answer : Answer) (after : Kernel) → Sound k → IsDeadUntouched k → Does IsRemoved k Flush answer after → IsDeadUntouched after
+flush_untouched IsRemoved k _ _ sound dead (Does.FlushesNothing none empty) = dead
+flush_untouched IsRemoved k _ _ sound dead (Does.TakesOff none some) = dead
+flush_untouched IsRemoved k _ _ sound dead (Does.Writes some few) = dead
+flush_untouched IsRemoved k _ _ sound dead (Does.IsDurable some all) = each_untouched k k k.flight sound.dead (λ n i. i) (batch-sound k sound) dead
+
+-- every event leaves dead entries untouched
+pub does_untouched : (IsRemoved : Table → ℕ → Table → Type 0) → RemovesOne IsRemoved → (k : Kernel) (event : Event) (answer : Answer) (after : Kernel) → Sound k → IsDeadUntouched k → turned_away k event ≡ None → Does IsRemoved k event answer after → IsDeadUntouched after
+does_untouched IsRemoved removes k (Begin s) answer after sound dead free does = begin_untouched k sound dead IsRemoved s answer after does
+does_untouched IsRemoved removes k (Start s op) answer after sound dead free does = start_untouched k sound dead IsRemoved s op answer after free does
+does_untouched IsRemoved removes k (AskName s) answer after sound dead free does = name_untouched k sound dead IsRemoved s answer after does
+does_untouched IsRemoved removes k (Plan s) answer after sound dead free does = plan_untouched k sound dead IsRemoved s answer after does
+does_untouched IsRemoved removes k (Ask s) answer after sound dead free does = ask_untouched k sound dead IsRemoved s answer after does
+does_untouched IsRemoved removes k (Apply s) answer after sound dead free does = apply_untouched k sound dead IsRemoved s answer after does
+does_untouched IsRemoved removes k (AskCommit s) answer after sound dead free does = commit_untouched k sound dead IsRemoved s answer after does
+does_untouched IsRemoved removes k (Rollback s) answer after sound dead free does = rollback_untouched k sound dead IsRemoved s answer after free does
+does_untouched IsRemoved removes k Flush answer after sound dead free does = flush_untouched IsRemoved k answer after sound dead does
+does_untouched IsRemoved removes k Clean answer after sound dead free does = clean_untouched k sound dead IsRemoved answer after removes does

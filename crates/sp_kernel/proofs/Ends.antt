@@ -29,7 +29,7 @@ commit_keeps IsRemoved k s _ _ sound (Does.TellsPlace _ x at placed) =
     let f = found-among s k.sessions x at in
     subst (λ (n : ℕ). Sound (record k { sessions = sessions_without n k.sessions })) f.1 (told-sound k x sound f.0 placed)
 
-rollback-active : (stage : Stage) → rollback_refused stage ≡ None → (is_active_stage stage ≡ true) × (is_queued stage ≡ false)
+pub rollback-active : (stage : Stage) → rollback_refused stage ≡ None → (is_active_stage stage ≡ true) × (is_queued stage ≡ false)
 rollback-active Idle h = (refl, refl)
 rollback-active (Started op) h = (refl, refl)
 rollback-active (NameWait op) h = (refl, refl)

@@ -397,9 +397,9 @@ each_placed : (k0 k : Kernel) (batch : List ℕ) → DeadListed k0.dead (entries
 each_placed k0 k [] listed stay sound = sound
 each_placed k0 k (s ∷ rest) listed stay sound = let p = place_next k0 k s rest listed stay sound in each_placed k0 (placed_found (session_at s k.sessions) k) rest listed p.1 p.0
 
--- once the batch is on the disk each of its commits takes its place
-pub placed_all-sound : (k : Kernel) → Sound k → Sound (placed_all k)
-placed_all-sound k sound = each_placed k k k.flight sound.dead (λ n i. i) (listed-sound k (k.dead ++ newly_dead (entries_in k) (entries_in k)) k.queue k.flight (calls_for k.flight) sound
+-- the whole batch is before it
+pub batch-sound : (k : Kernel) → Sound k → Sound (as_if k k.flight k)
+batch-sound k sound = listed-sound k (k.dead ++ newly_dead (entries_in k) (entries_in k)) k.queue k.flight (calls_for k.flight) sound
     (dead_grows k.dead (entries_in k) (entries_in k) sound.valid.distinct_entries (λ n i. i) sound.dead)
     (record {
       once = sound.queued.once;
@@ -408,4 +408,8 @@ placed_all-sound k sound = each_placed k k k.flight sound.dead (λ n i. i) (list
       calls_few = (calls_fit k.flight).0;
       begun = (calls_fit k.flight).1;
       none = (calls_fit k.flight).2;
-    }))
+    })
+
+-- once the batch is on the disk each of its commits takes its place
+pub placed_all-sound : (k : Kernel) → Sound k → Sound (placed_all k)
+placed_all-sound k sound = each_placed k k k.flight sound.dead (λ n i. i) (batch-sound k sound)

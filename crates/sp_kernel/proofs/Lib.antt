@@ -24,4 +24,6 @@ pub mod UpToLast
 pub mod Stepping
 pub mod Untouched
 pub mod Dying
+pub mod Entering
+pub mod OneByOne
 pub mod Finishing

@@ -6,7 +6,8 @@ mod requests;
 mod session;
 
 pub use ending::{
-    commits_keep_sound, flushes_keep_sound, removals_keep_sound, rollbacks_keep_sound,
+    commits_keep_sound, ends_change_marked_entries, flushes_keep_sound, removals_keep_sound,
+    rollbacks_keep_sound,
 };
 pub use requests::{requests_keep_sound, stages_keep_sound};
 pub use session::{Session, Stage};
