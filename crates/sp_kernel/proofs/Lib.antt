@@ -20,7 +20,7 @@ pub mod Ends
 pub mod Beginning
 pub mod Requesting
 pub mod Asking
-pub mod UpToLast
+pub mod Starts
 pub mod Stepping
 pub mod Untouched
 pub mod Dying
