@@ -1,9 +1,8 @@
 -- Every event leaves nothing of an active transaction on a dead entry.
-use Rattle.std.proofs.Common.{◌≡◌, ◌≢◌, ◌⊎◌, ℕ, ◌≤◌, Bool, true, false, not, cond, ◌&&◌, ◌||◌, List, [], ◌∷◌, ◌++◌, map, length, Option, None, Some, refl, sym, ap, ◌∙◌, subst, inl, inr, true≢false, arith}
-use Rattle.sp_rect.specs.declared.record.Record.{Record}
+use Rattle.std.proofs.Common.{◌≡◌, ◌≢◌, ◌⊎◌, ℕ, ◌≤◌, Bool, true, false, not, cond, ◌&&◌, ◌||◌, List, [], ◌∷◌, map, length, Option, None, Some, refl, sym, ap, ◌∙◌, subst, inl, inr, true≢false, arith}
 use Rattle.sp_rect.specs.declared.operation.Op.{Op}
 use Rattle.sp_rect.specs.declared.operation.Op.TheVariants.{Put, Drop, Set, Get, Find, Fill, Clear}
-use Rattle.sp_rect.specs.Store.{Part, Id, Area, touches, replied}
+use Rattle.sp_rect.specs.Store.{Part, Id, Area, touches}
 use Rattle.sp_locks.specs.declared.mode.Mode.{Mode}
 use Rattle.sp_locks.specs.declared.row.Name.{Name}
 use Rattle.sp_locks.specs.declared.row.Duration.{Duration}
@@ -12,9 +11,9 @@ use Rattle.sp_node.specs.declared.node.Entry.{Entry}
 use Rattle.sp_node.specs.Among.{Among}
 use Rattle.sp_node.specs.Change.{table_with, Keeps}
 use Rattle.sp_node.specs.Marks.{is_committed, is_made_by, is_ended_by, is_done, marked, settled, undone}
-use Rattle.sp_node.specs.Table.{Table, IsValid, entries_of}
+use Rattle.sp_node.specs.Table.{Table, entries_of}
 use Rattle.sp_node.proofs.Changed.{entries_of_with}
-use Rattle.sp_txn.specs.Visible.{is_visible, record_for, view}
+use Rattle.sp_txn.specs.Visible.{record_for}
 use Rattle.sp_event.specs.declared.event.Event.{Event}
 use Rattle.sp_event.specs.declared.event.Event.TheVariants.{Begin, Start, Name as AskName, Plan, Ask, Apply, Commit as AskCommit, Flush, Rollback, Clean}
 use Rattle.sp_event.specs.declared.answer.Answer.{Answer}
@@ -23,15 +22,15 @@ use Rattle.sp_protection.proofs.Leaves.{from_map}
 use Rattle.sp_kernel.specs.declared.session.Session.{Session}
 use Rattle.sp_kernel.specs.declared.session.Stage.{Stage}
 use Rattle.sp_kernel.specs.declared.session.Stage.TheVariants.{Idle, Started, NameWait, Named, NeedWait, Planned, Queued, Placed}
-use Rattle.sp_kernel.specs.State.{Kernel, entries_in, is_active, is_active_stage, is_session, session_at, sessions_without, with_session, with_change, at_stage, staged}
+use Rattle.sp_kernel.specs.State.{Kernel, entries_in, is_active, is_active_stage, session_at, sessions_without, with_session, with_change, at_stage, staged}
 use Rattle.sp_kernel.specs.Refusals.{refusal, turned_away}
 use Rattle.sp_kernel.specs.Moves.{Requests, lengthened, placed_found, placed_each}
-use Rattle.sp_kernel.specs.Plans.{IsInserted, left_to_ask}
+use Rattle.sp_kernel.specs.Plans.{left_to_ask}
 use Rattle.sp_kernel.specs.Removal.{RemovesOne}
 use Rattle.sp_kernel.specs.Stepped.{Does, IsAt, reply_of}
 use Rattle.sp_kernel.specs.Unmarked.{IsUntouched, DeadUntouched, IsDeadUntouched}
-use Rattle.sp_kernel.specs.Soundness.{DeadListed, is_queued, Sound}
-use Rattle.sp_kernel.proofs.Sessions.{one-session, found-among, none-among, Fate, Changes, Stays, of_change, of_without, of_with}
+use Rattle.sp_kernel.specs.Soundness.{DeadListed, Sound}
+use Rattle.sp_kernel.proofs.Sessions.{one-session, found-among, Fate, Changes, Stays, of_change, of_without, of_with}
 use Rattle.sp_kernel.proofs.Turned.{is_let, may_start}
 use Rattle.sp_kernel.proofs.Dead.{StayDead}
 use Rattle.sp_kernel.proofs.Entering.{grown_only}
