@@ -156,7 +156,7 @@ module _ (k : Kernel) (sound : Sound k) (dead : IsDeadUntouched k) where
   begin_untouched IsRemoved s _ _ (Does.Begins _) = dead-begun (record { txn = record { number = k.next_txn; session = s; seen = length k.commits; ops = []; searches = [] }; stage = Idle }) refl
 
   start_untouched : (IsRemoved : Table → ℕ → Table → Type 0) (s : ℕ) (op : Op) (answer : Answer) (after : Kernel) → turned_away k (Start s op) ≡ None → Does IsRemoved k (Start s op) answer after → IsDeadUntouched after
-  start_untouched IsRemoved s op _ _ free (Does.Starts _ x _ found) = dead-staged s x found (ap is_active_stage (may_start k s op x found free).idle) (Started op)
+  start_untouched IsRemoved s op _ _ free (Does.Starts _ x _ found in_space) = dead-staged s x found (ap is_active_stage (may_start k s op x found free).idle) (Started op)
 
   name_untouched : (IsRemoved : Table → ℕ → Table → Type 0) (s : ℕ) (answer : Answer) (after : Kernel) → Does IsRemoved k (AskName s) answer after → IsDeadUntouched after
   name_untouched IsRemoved s _ _ (Does.NamesNothing _ x op found started none) = dead-staged s x found (ap is_active_stage started) (Named op)

@@ -53,6 +53,7 @@ finished-sound k x op left sound here at = restaged-sound k x Idle rows sound (r
   met = λ y i e. released-others ShortLocks s y.txn.session k.locks e;
   awaits = λ y o i e h. released-awaits_object ShortLocks s y.txn.session k.locks o e h;
   shares = λ y i e. shares-idle y.stage;
+  in_space = tt;
   at = tt;
   counts = counts-no_more k x Idle rows sound.sessions.ascending sound.counts here active refl (least (under_way x.stage));
 })

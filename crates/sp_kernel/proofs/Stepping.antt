@@ -22,7 +22,7 @@ module _ (IsRemoved : Table → ℕ → Table → Type 0) where
   begin_keeps k s _ _ sound free (Does.Begins _) = begin-sound k s sound free
 
   start_keeps : (k : Kernel) (s : ℕ) (op : Op) (answer : Answer) (after : Kernel) → Sound k → turned_away k (Start s op) ≡ None → Does IsRemoved k (Start s op) answer after → Sound after
-  start_keeps k s op _ _ sound free (Does.Starts _ x _ at) = start-sound k s x op sound free at
+  start_keeps k s op _ _ sound free (Does.Starts _ x _ at in_space) = start-sound k s x op sound free at in_space
 
   name_keeps : (k : Kernel) (s : ℕ) (answer : Answer) (after : Kernel) → Sound k → turned_away k (Name s) ≡ None → Does IsRemoved k (Name s) answer after → Sound after
   name_keeps k s _ _ sound free (Does.NamesNothing _ x op at started none) = names_nothing-sound k s x op sound at started none

@@ -17,7 +17,7 @@ module _ (IsRemoved : Table → ℕ → Table → Type 0) (k : Kernel) (s : ℕ)
   begins _ _ let_in (Begins s) = begin-sound k s sound let_in
 
   pub starts : (op : Op) (answer : Answer) (after : Kernel) → turned_away k (Start s op) ≡ None → Does IsRemoved k (Start s op) answer after → Sound after
-  starts _ _ _ let_in (Starts s x op found) = start-sound k s x op sound let_in found
+  starts _ _ _ let_in (Starts s x op found in_space) = start-sound k s x op sound let_in found in_space
 
   pub names : (answer : Answer) (after : Kernel) → turned_away k (Name s) ≡ None → Does IsRemoved k (Name s) answer after → Sound after
   names _ _ let_in (NamesNothing s x op found at none) = names_nothing-sound k s x op sound found at none

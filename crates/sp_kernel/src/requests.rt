@@ -12,7 +12,7 @@ ghost use Rattle.sp_kernel.specs.declared.session.Stage.TheVariants.{Started, Na
 ghost use Rattle.sp_kernel.specs.State.{Kernel};
 ghost use Rattle.sp_kernel.specs.Refusals.{turned_away};
 ghost use Rattle.sp_kernel.specs.Moves.{with_stage, begun, Requests};
-ghost use Rattle.sp_kernel.specs.Plans.{object_of, HasNeeds, left_to_ask};
+ghost use Rattle.sp_kernel.specs.Plans.{object_of, HasRectangle, HasNeeds, left_to_ask};
 ghost use Rattle.sp_kernel.specs.Stepped.{IsAt};
 ghost use Rattle.sp_kernel.specs.Soundness.{Sound};
 
@@ -20,7 +20,7 @@ ghost use Rattle.sp_kernel.specs.Soundness.{Sound};
 pub fn stages_keep_sound()
     ensures begin { (k : Kernel) (s : ℕ) → Sound k → turned_away k (Begin s) ≡ None → Sound (begun s k) }
     ensures start { (k : Kernel) (s : ℕ) (x : AnySession) (op : AnyOp) → Sound k → turned_away k (Start s op) ≡ None → IsAt k s x
-        → Sound (with_stage s (Started op) k) }
+        → HasRectangle op → Sound (with_stage s (Started op) k) }
     ensures plan { (k : Kernel) (s : ℕ) (x : AnySession) (op : AnyOp) (commit short : List AnyNeed) → Sound k → turned_away k (Plan s) ≡ None
         → IsAt k s x → (x.stage ≡ Named op) ⊎ (x.stage ≡ NeedWait op) → HasNeeds k x op commit short
         → Sound (with_stage s (Planned op (left_to_ask k.locks s commit short)) k) }

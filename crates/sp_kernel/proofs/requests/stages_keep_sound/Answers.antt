@@ -6,7 +6,7 @@ pub returns-clause-begin : goal.returns-clause-begin
 returns-clause-begin c k s sound let_in = begin-sound k s sound let_in
 
 pub returns-clause-start : goal.returns-clause-start
-returns-clause-start c k s x op sound let_in found = start-sound k s x op sound let_in found
+returns-clause-start c k s x op sound let_in found in_space = start-sound k s x op sound let_in found in_space
 
 pub returns-clause-plan : goal.returns-clause-plan
 returns-clause-plan c k s x op commit short sound let_in found at needs = plan-sound k s x op commit short sound let_in found at needs
