@@ -24,7 +24,8 @@ use Rattle.sp_kernel.proofs.Awake.{may-have, awake, released-awake, released-lon
 use Rattle.sp_kernel.proofs.Restaging.{restaged-sound}
 use Rattle.sp_kernel.proofs.Staging.{told}
 
-shares-idle : (stage : Stage) → SharesLatch Idle stage × SharesLatch stage Idle
+-- an idle session shares the latch with all
+pub shares-idle : (stage : Stage) → SharesLatch Idle stage × SharesLatch stage Idle
 shares-idle Idle = (tt, tt)
 shares-idle (Started o) = (tt, tt)
 shares-idle (NameWait o) = (tt, tt)

@@ -27,3 +27,4 @@ pub mod Dying
 pub mod Entering
 pub mod OneByOne
 pub mod Finishing
+pub mod Operating
