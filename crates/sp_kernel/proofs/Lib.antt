@@ -28,3 +28,5 @@ pub mod Entering
 pub mod OneByOne
 pub mod Finishing
 pub mod Operating
+pub mod Ready
+pub mod Marking
