@@ -1,9 +1,8 @@
 -- Every event leaves nothing of an active transaction on a dead entry.
-use Rattle.std.proofs.Common.{◌≡◌, ◌≢◌, ◌⊎◌, ℕ, ◌≤◌, Bool, true, false, not, cond, ◌&&◌, ◌||◌, List, [], ◌∷◌, ◌++◌, map, length, Option, None, Some, refl, sym, ap, ◌∙◌, subst, inl, inr, true≢false, arith}
-use Rattle.sp_rect.specs.declared.record.Record.{Record}
+use Rattle.std.proofs.Common.{◌≡◌, ◌≢◌, ◌⊎◌, ℕ, ◌≤◌, Bool, true, false, not, cond, ◌&&◌, ◌||◌, List, [], ◌∷◌, map, length, Option, None, Some, refl, sym, ap, ◌∙◌, subst, inl, inr, true≢false, arith}
 use Rattle.sp_rect.specs.declared.operation.Op.{Op}
 use Rattle.sp_rect.specs.declared.operation.Op.TheVariants.{Put, Drop, Set, Get, Find, Fill, Clear}
-use Rattle.sp_rect.specs.Store.{Part, Id, Area, touches, replied}
+use Rattle.sp_rect.specs.Store.{Part, Id, Area, touches}
 use Rattle.sp_locks.specs.declared.mode.Mode.{Mode}
 use Rattle.sp_locks.specs.declared.row.Name.{Name}
 use Rattle.sp_locks.specs.declared.row.Duration.{Duration}
@@ -12,9 +11,9 @@ use Rattle.sp_node.specs.declared.node.Entry.{Entry}
 use Rattle.sp_node.specs.Among.{Among}
 use Rattle.sp_node.specs.Change.{table_with, Keeps}
 use Rattle.sp_node.specs.Marks.{is_committed, is_made_by, is_ended_by, is_done, marked, settled, undone}
-use Rattle.sp_node.specs.Table.{Table, IsValid, entries_of}
+use Rattle.sp_node.specs.Table.{Table, entries_of}
 use Rattle.sp_node.proofs.Changed.{entries_of_with}
-use Rattle.sp_txn.specs.Visible.{is_visible, record_for, view}
+use Rattle.sp_txn.specs.Visible.{record_for}
 use Rattle.sp_event.specs.declared.event.Event.{Event}
 use Rattle.sp_event.specs.declared.event.Event.TheVariants.{Begin, Start, Name as AskName, Plan, Ask, Apply, Commit as AskCommit, Flush, Rollback, Clean}
 use Rattle.sp_event.specs.declared.answer.Answer.{Answer}
@@ -23,15 +22,15 @@ use Rattle.sp_protection.proofs.Leaves.{from_map}
 use Rattle.sp_kernel.specs.declared.session.Session.{Session}
 use Rattle.sp_kernel.specs.declared.session.Stage.{Stage}
 use Rattle.sp_kernel.specs.declared.session.Stage.TheVariants.{Idle, Started, NameWait, Named, NeedWait, Planned, Queued, Placed}
-use Rattle.sp_kernel.specs.State.{Kernel, entries_in, is_active, is_active_stage, is_session, session_at, sessions_without, with_session, with_change, at_stage, staged}
+use Rattle.sp_kernel.specs.State.{Kernel, entries_in, is_active, is_active_stage, session_at, sessions_without, with_session, with_change, at_stage, staged}
 use Rattle.sp_kernel.specs.Refusals.{refusal, turned_away}
 use Rattle.sp_kernel.specs.Moves.{Requests, lengthened, placed_found, placed_each}
-use Rattle.sp_kernel.specs.Plans.{IsInserted, left_to_ask}
+use Rattle.sp_kernel.specs.Plans.{left_to_ask}
 use Rattle.sp_kernel.specs.Removal.{RemovesOne}
 use Rattle.sp_kernel.specs.Stepped.{Does, IsAt, reply_of}
 use Rattle.sp_kernel.specs.Unmarked.{IsUntouched, DeadUntouched, IsDeadUntouched}
-use Rattle.sp_kernel.specs.Soundness.{DeadListed, is_queued, Sound}
-use Rattle.sp_kernel.proofs.Sessions.{one-session, found-among, none-among, Fate, Changes, Stays, of_change, of_without, of_with}
+use Rattle.sp_kernel.specs.Soundness.{DeadListed, Sound}
+use Rattle.sp_kernel.proofs.Sessions.{one-session, found-among, Fate, Changes, Stays, of_change, of_without, of_with}
 use Rattle.sp_kernel.proofs.Turned.{is_let, may_start}
 use Rattle.sp_kernel.proofs.Dead.{StayDead}
 use Rattle.sp_kernel.proofs.Entering.{grown_only}
@@ -54,7 +53,7 @@ same_dead : (es : List Entry) (e : Entry) → Among e es → is_done e.marks.end
 same_dead es e i d = (e, i, d, λ t h. h)
 
 -- an operation marks what is not dead, and lets nothing die
-marks_alive : (t : ℕ) (op : Op) (e : Entry) → is_done (marked_by t op e).marks.ended ≡ true → (is_done e.marks.ended ≡ true) × (marked_by t op e ≡ e)
+pub marks_alive : (t : ℕ) (op : Op) (e : Entry) → is_done (marked_by t op e).marks.ended ≡ true → (is_done e.marks.ended ≡ true) × (marked_by t op e ≡ e)
 marks_alive t op e = go op
   where
     alive : (c m x d b : Bool) → (((c || m) && not (x || d)) && b) ≡ true → d ≡ true → ⊥
@@ -83,7 +82,7 @@ marked_dead t op es e i d =
     let a = marks_alive t op r.0 (subst (λ (z : Entry). is_done z.marks.ended ≡ true) (sym r.2) d) in
     (r.0, r.1, a.0, λ u h. subst (IsUntouched u) (sym a.1 ∙ r.2) h)
 
-marks_keep : (t : ℕ) (op : Op) → Keeps (marked_by t op)
+pub marks_keep : (t : ℕ) (op : Op) → Keeps (marked_by t op)
 marks_keep t op = record { number = λ e. number e (is_changed t op e); id = λ e. id e (is_changed t op e); rect = λ e. rect e (is_changed t op e) }
   where
     number : (e : Entry) (b : Bool) → (cond b (marked (marks_by t op e.marks) e) e).number ≡ e.number
@@ -157,7 +156,7 @@ module _ (k : Kernel) (sound : Sound k) (dead : IsDeadUntouched k) where
   begin_untouched IsRemoved s _ _ (Does.Begins _) = dead-begun (record { txn = record { number = k.next_txn; session = s; seen = length k.commits; ops = []; searches = [] }; stage = Idle }) refl
 
   start_untouched : (IsRemoved : Table → ℕ → Table → Type 0) (s : ℕ) (op : Op) (answer : Answer) (after : Kernel) → turned_away k (Start s op) ≡ None → Does IsRemoved k (Start s op) answer after → IsDeadUntouched after
-  start_untouched IsRemoved s op _ _ free (Does.Starts _ x _ found) = dead-staged s x found (ap is_active_stage (may_start k s op x found free).idle) (Started op)
+  start_untouched IsRemoved s op _ _ free (Does.Starts _ x _ found in_space) = dead-staged s x found (ap is_active_stage (may_start k s op x found free).idle) (Started op)
 
   name_untouched : (IsRemoved : Table → ℕ → Table → Type 0) (s : ℕ) (answer : Answer) (after : Kernel) → Does IsRemoved k (AskName s) answer after → IsDeadUntouched after
   name_untouched IsRemoved s _ _ (Does.NamesNothing _ x op found started none) = dead-staged s x found (ap is_active_stage started) (Named op)

@@ -1,5 +1,5 @@
 -- An insertion brings the new entry, and no other.
-use Rattle.std.proofs.Common.{◌≡◌, ◌⊎◌, ℕ, zero, suc, List, [], ◌∷◌, ◌++◌, flat_map, refl, sym, ap, ◌∙◌, subst, inl, inr}
+use Rattle.std.proofs.Common.{◌≡◌, ◌⊎◌, ℕ, zero, suc, List, [], ◌∷◌, ◌++◌, refl, sym, subst, inl, inr}
 use Rattle.std.specs.Prelude.{slice_get}
 use Rattle.std.specs.Option.{option_to_list}
 use Rattle.sp_node.specs.declared.node.Entry.{Entry}
@@ -9,7 +9,7 @@ use Rattle.sp_node.specs.Look.{look}
 use Rattle.sp_node.specs.Nested.{Body, Branch, entries}
 use Rattle.sp_node.specs.Table.{Table, body_at, level_of, entries_of}
 use Rattle.sp_node.proofs.Among.{among_left, among_right, among_split, among_flat_map, from_flat_map}
-use Rattle.sp_grow.specs.Insertion.{Outcome, one, two, with_outcome, IsNode, Settles, Grows}
+use Rattle.sp_grow.specs.Insertion.{Outcome, one, two, with_outcome, Settles, Grows}
 use Rattle.sp_grow.specs.Members.{pick}
 use Rattle.sp_grow.specs.Grown.{IsGrown, IsRoot}
 

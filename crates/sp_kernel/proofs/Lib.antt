@@ -27,3 +27,6 @@ pub mod Dying
 pub mod Entering
 pub mod OneByOne
 pub mod Finishing
+pub mod Operating
+pub mod Ready
+pub mod Marking

@@ -1,7 +1,7 @@
 -- The end of a transaction, made on the entries that it marked one after the other, is its end on all entries.
-use Rattle.std.proofs.Common.{◌≡◌, ◌≢◌, ◌⊎◌, ℕ, Bool, true, false, cond, List, [], ◌∷◌, ◌++◌, map, Option, None, Some, refl, sym, ap, ◌∙◌, subst, inl, inr, true≢false}
+use Rattle.std.proofs.Common.{◌≡◌, ◌≢◌, ℕ, Bool, true, false, cond, List, [], ◌∷◌, map, None, Some, refl, sym, ap, ◌∙◌, subst, inl, inr, true≢false}
 use Rattle.std.specs.Prelude.{nat_eq}
-use Rattle.std.specs.List.{AllByRecursion, IsDistinct, flat_map}
+use Rattle.std.specs.List.{IsDistinct}
 use Rattle.std.proofs.lemmas.Map.Keys.{IsDistinct-head, IsDistinct-tail}
 use Rattle.sp_node.specs.declared.node.Entry.{Entry}
 use Rattle.sp_node.specs.declared.node.Node.{Node}
@@ -10,7 +10,7 @@ use Rattle.sp_node.specs.Among.{Among}
 use Rattle.sp_node.specs.Change.{at_number, node_with, nodes_with, table_with, Keeps}
 use Rattle.sp_node.specs.Look.{look, entries_of_node}
 use Rattle.sp_node.specs.Marks.{is_marked, settled, undone}
-use Rattle.sp_node.specs.Nested.{Place, node}
+use Rattle.sp_node.specs.Nested.{node}
 use Rattle.sp_node.specs.Table.{Table, IsValid, places_of, entries_of}
 use Rattle.sp_node.proofs.Among.{all_among, among_flat_map}
 use Rattle.sp_node.proofs.ByNumber.{node_of_number}
@@ -21,7 +21,7 @@ use Rattle.sp_kernel.specs.declared.session.Session.{Session}
 use Rattle.sp_kernel.specs.State.{Kernel, entries_in, is_active}
 use Rattle.sp_kernel.specs.Unmarked.{IsUntouched, IsDeadUntouched, one_by_one, AreNumbersMarked}
 use Rattle.sp_kernel.specs.Soundness.{Sound}
-use Rattle.sp_kernel.proofs.Sessions.{number-same, number-tell, number-apart}
+use Rattle.sp_kernel.proofs.Sessions.{number-tell, number-apart}
 use Rattle.sp_kernel.proofs.Dead.{distinct-out}
 use Rattle.sp_kernel.proofs.Endings.{same_table}
 use Rattle.sp_kernel.proofs.Settling.{undone-keeps, settled-keeps}

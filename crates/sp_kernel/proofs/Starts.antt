@@ -16,7 +16,7 @@ pub begin_keeps : (IsRemoved : Table → ℕ → Table → Type 0) (k : Kernel) 
 begin_keeps IsRemoved k s _ _ sound free (Begins _) = begin-sound k s sound free
 
 pub start_keeps : (IsRemoved : Table → ℕ → Table → Type 0) (k : Kernel) (s : ℕ) (op : Op) (answer : Answer) (after : Kernel) → Sound k → turned_away k (Start s op) ≡ None → Does IsRemoved k (Start s op) answer after → Sound after
-start_keeps IsRemoved k s op _ _ sound free (Starts _ x _ found) = start-sound k s x op sound free found
+start_keeps IsRemoved k s op _ _ sound free (Starts _ x _ found in_space) = start-sound k s x op sound free found in_space
 
 pub name_keeps : (IsRemoved : Table → ℕ → Table → Type 0) (k : Kernel) (s : ℕ) (answer : Answer) (after : Kernel) → Sound k → turned_away k (Name s) ≡ None → Does IsRemoved k (Name s) answer after → Sound after
 name_keeps IsRemoved k s _ _ sound free (NamesNothing _ x op found at none) = names_nothing-sound k s x op sound found at none

@@ -1,5 +1,5 @@
 -- Every event keeps a kernel sound, and so does every run.
-use Rattle.std.proofs.Common.{◌≡◌, ℕ, List, [], ◌∷◌, ◌++◌, None}
+use Rattle.std.proofs.Common.{◌≡◌, ℕ, List, None}
 use Rattle.sp_node.specs.Table.{Table}
 use Rattle.sp_event.specs.declared.event.Event.{Event}
 use Rattle.sp_event.specs.declared.event.Event.TheVariants.{Begin, Start, Name, Plan, Ask, Apply, Commit as AskCommit, Flush, Rollback, Clean}

@@ -1,5 +1,5 @@
 -- Nothing on a dead entry is of an active transaction, and so the end of a transaction changes just the entries that it marked.
-use Rattle.std.proofs.Common.{◌≡◌, ◌≢◌, ◌⊎◌, ℕ, Bool, true, false, not, cond, ◌&&◌, ◌||◌, List, [], ◌∷◌, ◌++◌, map, length, nat_eq, Option, None, Some, refl, sym, ap, ◌∙◌, subst, inl, inr, true≢false, arith}
+use Rattle.std.proofs.Common.{◌≡◌, ◌≢◌, ℕ, Bool, true, false, not, ◌&&◌, ◌||◌, List, map, length, refl, sym, subst, arith}
 use Rattle.std.proofs.lemmas.Bool.Decides.{nat_tests}
 use Rattle.sp_locks.specs.declared.mode.Mode.TheVariants.{X}
 use Rattle.sp_locks.specs.declared.row.Name.TheVariants.{Object}
@@ -17,7 +17,6 @@ use Rattle.sp_kernel.specs.Unmarked.{IsUntouched, DeadUntouched}
 use Rattle.sp_kernel.specs.Soundness.{Sound}
 use Rattle.sp_kernel.proofs.Holding.{locks-compatible}
 use Rattle.sp_kernel.proofs.Endings.{numbers-other}
-use Rattle.sp_kernel.proofs.Settling.{undone-free, settled-free}
 
 no_made : (t : ℕ) (m : Made) → is_made_by t m ≡ false → made_settled t m ≡ m
 no_made t m h = grind (arith, nat_tests)
