@@ -5,7 +5,6 @@ use Rattle.sp_event.specs.declared.event.Event.{Event}
 use Rattle.sp_event.specs.declared.event.Event.TheVariants.{Begin, Start, Name, Plan, Ask, Apply, Commit as AskCommit, Flush, Rollback, Clean}
 use Rattle.sp_event.specs.declared.answer.Answer.{Answer}
 use Rattle.sp_event.specs.declared.step.Step.{Step}
-use Rattle.sp_rect.specs.declared.operation.Op.{Op}
 use Rattle.sp_kernel.specs.State.{Kernel}
 use Rattle.sp_kernel.specs.Refusals.{turned_away}
 use Rattle.sp_kernel.specs.Removal.{RemovesOne}
