@@ -1,0 +1,38 @@
+-- Every event keeps a kernel sound, and so does every run.
+use Rattle.std.proofs.Common.{◌≡◌, ℕ, List, None}
+use Rattle.sp_node.specs.Table.{Table}
+use Rattle.sp_event.specs.declared.event.Event.{Event}
+use Rattle.sp_event.specs.declared.event.Event.TheVariants.{Begin, Start, Name, Plan, Ask, Apply, Commit as AskCommit, Flush, Rollback, Clean}
+use Rattle.sp_event.specs.declared.answer.Answer.{Answer}
+use Rattle.sp_event.specs.declared.step.Step.{Step}
+use Rattle.sp_kernel.specs.State.{Kernel}
+use Rattle.sp_kernel.specs.Refusals.{turned_away}
+use Rattle.sp_kernel.specs.Removal.{RemovesOne}
+use Rattle.sp_kernel.specs.Runs.{Runs}
+use Rattle.sp_kernel.specs.Stepped.{Does, Stepped}
+use Rattle.sp_kernel.specs.Soundness.{Sound}
+use Rattle.sp_kernel.proofs.Ends.{commit_keeps, rollback_keeps, flush_keeps, clean_keeps}
+use Rattle.sp_kernel.proofs.Starts.{begin_keeps, start_keeps, name_keeps, plan_keeps, ask_keeps}
+
+module _ (IsRemoved : Table → ℕ → Table → Type 0) where
+  -- an event that does what it does keeps a kernel sound, where an operation that is applied does
+  module _ (removes : RemovesOne IsRemoved) (apply_keeps : (k : Kernel) (s : ℕ) (answer : Answer) (after : Kernel) → Sound k → turned_away k (Apply s) ≡ None → Does IsRemoved k (Apply s) answer after → Sound after) where
+    pub does_keeps : (k : Kernel) (event : Event) (answer : Answer) (after : Kernel) → Sound k → turned_away k event ≡ None → Does IsRemoved k event answer after → Sound after
+    does_keeps k (Begin s) = begin_keeps IsRemoved k s
+    does_keeps k (Start s op) = start_keeps IsRemoved k s op
+    does_keeps k (Name s) = name_keeps IsRemoved k s
+    does_keeps k (Plan s) = plan_keeps IsRemoved k s
+    does_keeps k (Ask s) = λ answer after sound free does. ask_keeps IsRemoved k s answer after sound does
+    does_keeps k (Apply s) = apply_keeps k s
+    does_keeps k (AskCommit s) = λ answer after sound free does. commit_keeps IsRemoved k s answer after sound does
+    does_keeps k (Rollback s) = rollback_keeps IsRemoved k s
+    does_keeps k Flush = λ answer after sound free does. flush_keeps IsRemoved k answer after sound does
+    does_keeps k Clean = λ answer after. clean_keeps IsRemoved k answer after removes
+
+    pub stepped_keeps : (k : Kernel) (event : Event) (answer : Answer) (after : Kernel) → Sound k → Stepped IsRemoved k event answer after → Sound after
+    stepped_keeps k event _ _ sound (Stepped.IsTurnedAway answer away) = sound
+    stepped_keeps k event _ _ sound (Stepped.IsDone answer after free does) = does_keeps k event answer after sound free does
+
+    pub runs_keep : (k : Kernel) (steps : List Step) (last : Kernel) → Sound k → Runs IsRemoved k steps last → Sound last
+    runs_keep k _ _ sound Runs.Stays = sound
+    runs_keep k _ last sound (Runs.Goes between steps step runs stepped) = stepped_keeps between step.event step.answer last (runs_keep k steps between sound runs) stepped

@@ -1,0 +1,13 @@
+//! The kernel of a transactional server of rectangles with records: its state, and what one event makes of it.
+#![tactic(auto)]
+
+mod ending;
+mod requests;
+mod session;
+
+pub use ending::{
+    commits_keep_sound, ends_change_marked_entries, flushes_keep_sound, removals_keep_sound,
+    rollbacks_keep_sound,
+};
+pub use requests::{begins_keep_sound, plans_keep_sound, requests_keep_sound};
+pub use session::{Session, Stage};
