@@ -16,7 +16,7 @@ use Rattle.sp_node.proofs.Among.{among_right, among_flat_map, from_flat_map}
 use Rattle.sp_node.proofs.Standing.{leaf_stands}
 use Rattle.sp_granule.specs.Granules.{Granule, Standing, standing, granule, granule_of_node, granules}
 use Rattle.sp_grow.specs.Chosen.{ReachesOf}
-use Rattle.sp_grow.specs.Insertion.{Outcome, Grows, with_outcome}
+use Rattle.sp_grow.specs.Insertion.{Outcome, Grows, with_outcome, here, below}
 use Rattle.sp_grow.specs.Grown.{IsGrown}
 use Rattle.sp_grow.specs.Moves.{InLeaf, InLeafOf, Leaves}
 use Rattle.sp_grow.proofs.Moves.{InOutcome, settles_above, settles_leaf, in_with, in_tree, old_entry}
@@ -79,15 +79,15 @@ leaf_entry (suc level) number body f leaf h = among_flat_map (λ b. entries leve
 
 -- The new entry stands in some leaf.
 module _ (shape : Shape) (v : IsShape shape) where
-  somewhere : (level number next : ℕ) (body : Body level) (e : Entry) (outcome : Outcome (Body level)) (next' : ℕ) → Grows shape level number next body e outcome next' → (leaf : ℕ) × InOutcome level outcome e leaf
-  somewhere zero number next es e outcome next' g =
-      elim (settles_leaf shape v number next (es ++ e ∷ []) outcome next' g e (among_right e es (e ∷ []) (inl refl))) [
+  somewhere : (e : Entry) (level number next : ℕ) (body : Body level) (outcome : Outcome (Body level)) (next' : ℕ) → Grows shape 0 e level number next body outcome next' → (leaf : ℕ) × InOutcome level outcome e leaf
+  somewhere e level number next es outcome next' (here s) =
+      elim (settles_leaf shape v number next (es ++ e ∷ []) outcome next' s e (among_right e es (e ∷ []) (inl refl))) [
         | inl m ↦ (number, m)
         | inr m ↦ (next, m)
       ]
-  somewhere (suc level) number next branches e outcome next' g =
-      let below = somewhere level g.1.number next g.1.body e g.3 g.4 g.7 in
-      (below.0, settles_above shape v level number g.4 (with_outcome g.0 g.3 g.2) outcome next' g.8 e below.0 (in_with shape v level number g.0 g.2 g.3 e below.0 below.1))
+  somewhere e (suc level) number next branches outcome next' (below front b back under mid is chosen g s) =
+      let lower = somewhere e level b.number next b.body under mid g in
+      (lower.0, settles_above shape v level number mid (with_outcome front under back) outcome next' s e lower.0 (in_with shape v level number front back under e lower.0 lower.1))
 
 -- no granule has an entry whose number the tree does not have
 no_entry : (e : Entry) (es : List Entry) → list_any (nat_eq e.number) (map (λ x. x.number) es) ≡ false → (f : Entry) → Among f es → f.number ≡ e.number → ⊥
@@ -138,7 +138,7 @@ module _ (t t' : Table) (e : Entry) (valid : IsValid t) (valid' : IsValid t') (s
 
   new_stands : (leaf : ℕ) × StandsAt (granules t') e leaf
   new_stands =
-      let at = somewhere t.shape valid.shape (level_of t) t.root t.next (body_at (look t.nodes) (level_of t) t.root) e grown.outcome grown.next grown.grows in
+      let at = somewhere t.shape valid.shape e (level_of t) t.root t.next (body_at (look t.nodes) (level_of t) t.root) grown.outcome grown.next grown.grows in
       (at.0, of_leaf t' e at.0 (in_tree t e t' grown (level_of t) grown.outcome grown.next grown.root e at.0 at.1))
 
   keeps : (g : Granule) (x : Standing) → Among g (granules t) → Among x g.entries → StillHas (granules t') x.number
