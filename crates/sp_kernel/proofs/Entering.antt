@@ -9,7 +9,7 @@ use Rattle.sp_node.specs.Look.{look}
 use Rattle.sp_node.specs.Nested.{Body, Branch, entries}
 use Rattle.sp_node.specs.Table.{Table, body_at, level_of, entries_of}
 use Rattle.sp_node.proofs.Among.{among_left, among_right, among_split, among_flat_map, from_flat_map}
-use Rattle.sp_grow.specs.Insertion.{Outcome, one, two, with_outcome, Settles, Grows}
+use Rattle.sp_grow.specs.Insertion.{Outcome, one, two, with_outcome, Settles, Grows, here, below}
 use Rattle.sp_grow.specs.Members.{pick}
 use Rattle.sp_grow.specs.Grown.{IsGrown, IsRoot}
 
@@ -66,16 +66,16 @@ module _ (shape : Shape) (f : Entry) where
       go (inr (inl e)) = inl (inl (subst (λ (z : Branch (Body level)). Among f (entries level z.body)) e j))
       go (inr (inr k)) = last (among_split c back (d ∷ []) k)
 
-  grows_from : (level number next : ℕ) (body : Body level) (e : Entry) (outcome : Outcome (Body level)) (next' : ℕ) → Grows shape level number next body e outcome next' → InOutcome level outcome → (f ≡ e) ⊎ Among f (entries level body)
-  grows_from zero number next es e outcome next' h i = go (among_split f es (e ∷ []) (settles_from zero number next (es ++ e ∷ []) outcome next' h i))
+  grows_from : (e : Entry) (level number next : ℕ) (body : Body level) (outcome : Outcome (Body level)) (next' : ℕ) → Grows shape 0 e level number next body outcome next' → InOutcome level outcome → (f ≡ e) ⊎ Among f (entries level body)
+  grows_from e level number next es outcome next' (here h) i = go (among_split f es (e ∷ []) (settles_from zero number next (es ++ e ∷ []) outcome next' h i))
     where
       go : Among f es ⊎ Among f (e ∷ []) → (f ≡ e) ⊎ Among f es
       go (inl j) = inr j
       go (inr (inl s)) = inl s
       go (inr (inr none)) = absurd none
-  grows_from (suc level) number next branches e outcome next' (front, b, back, under, mid, split, chosen, grows, settles) i =
+  grows_from e (suc level) number next branches outcome next' (below front b back under mid split chosen grows settles) i =
       let r = from_flat_map (λ (z : Branch (Body level)). entries level z.body) f (with_outcome front under back) (settles_from (suc level) number mid (with_outcome front under back) outcome next' settles i) in
-      go (grows_from level b.number next b.body e under mid grows) r.0 (with_from level front b under back r.0 r.1 r.2) r.2
+      go (grows_from e level b.number next b.body under mid grows) r.0 (with_from level front b under back r.0 r.1 r.2) r.2
     where
       stands : (c : Branch (Body level)) → Among c (front ++ b ∷ back) → Among f (entries level c.body) → Among f (entries (suc level) branches)
       stands c k j = subst (λ (bs : List (Branch (Body level))). Among f (entries (suc level) bs)) (sym split) (among_flat_map (λ (z : Branch (Body level)). entries level z.body) f c (front ++ b ∷ back) k j)
@@ -105,5 +105,5 @@ module _ (shape : Shape) (f : Entry) where
 -- what stands in a tree after an insertion is the new entry, or stood there
 pub grown_only : (t : Table) (e : Entry) (t' : Table) → IsGrown t e t' → (f : Entry) → Among f (entries_of t') → (f ≡ e) ⊎ Among f (entries_of t)
 grown_only t e t' g f i =
-    grows_from t.shape f (level_of t) t.root t.next (body_at (look t.nodes) (level_of t) t.root) e g.outcome g.next g.grows
+    grows_from t.shape f e (level_of t) t.root t.next (body_at (look t.nodes) (level_of t) t.root) g.outcome g.next g.grows
     (root_from t.shape f (level_of t) g.outcome g.next t' g.root i)

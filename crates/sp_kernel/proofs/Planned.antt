@@ -14,7 +14,7 @@ use Rattle.sp_node.specs.Nested.{Body, Branch, Place, rects}
 use Rattle.sp_node.specs.Table.{Table, body_at, level_of, places_of, entries_of}
 use Rattle.sp_node.proofs.Changed.{member_with, body_with, place_with, places_of_with, entries_of_with, valid_with, ascending_with, rects_with, body_at_with, look_with, level_with}
 use Rattle.sp_grow.specs.Chosen.{IsChosen, Reaches, ReachesOf}
-use Rattle.sp_grow.specs.Insertion.{Outcome, one, two, with_outcome, IsNode, Settles, Grows}
+use Rattle.sp_grow.specs.Insertion.{Outcome, one, two, with_outcome, IsNode, Settles, Grows, here, below}
 use Rattle.sp_grow.specs.Members.{pick}
 use Rattle.sp_grow.specs.Grown.{IsGrown, IsRoot}
 use Rattle.sp_granule.specs.Granules.{Granule, Standing, standing, granule, granule_of_node, granules}
@@ -106,20 +106,15 @@ module _ (change : Entry → Entry) (keeps : Keeps change) where
       subst (λ (rs : List Rectangle). IsChosen rs rect (rects (suc level) (map (branch_with level) back)) q) (sym (rects_with change keeps (suc level) front))
       (subst (λ (rs : List Rectangle). IsChosen (rects (suc level) front) rect rs q) (sym (rects_with change keeps (suc level) back)) h)
 
-  grows_with : (shape : Shape) (level number next : ℕ) (body : Body level) (e : Entry) (outcome : Outcome (Body level)) (next' : ℕ) → Grows shape level number next body e outcome next' → Grows shape level number next (body_with change level body) (change e) (outcome_with level outcome) next'
-  grows_with shape zero number next es e outcome next' h =
-      subst (λ (m : List Entry). Settles shape zero number next m (outcome_with zero outcome) next') (map-append change es (e ∷ [])) (settles_with shape zero number next (es ++ e ∷ []) outcome next' h)
-  grows_with shape (suc level) number next branches e outcome next' (front, b, back, below, mid, split, chosen, grows, settles) = (
-    map (branch_with level) front,
-    branch_with level b,
-    map (branch_with level) back,
-    outcome_with level below,
-    mid,
-    ap (map (branch_with level)) split ∙ map-append (branch_with level) front (b ∷ back),
-    subst (λ (q : Rectangle). IsChosen (rects (suc level) (map (branch_with level) front)) b.rect (rects (suc level) (map (branch_with level) back)) q) (sym (keeps.rect e)) (chosen_with level front b.rect back e.rect chosen),
-    grows_with shape level b.number next b.body e below mid grows,
-    subst (λ (m : Body (suc level)). Settles shape (suc level) number mid m (outcome_with (suc level) outcome) next') (put_with level front below back) (settles_with shape (suc level) number mid (with_outcome front below back) outcome next' settles),
-  )
+  grows_with : (shape : Shape) (e : Entry) (level number next : ℕ) (body : Body level) (outcome : Outcome (Body level)) (next' : ℕ) → Grows shape 0 e level number next body outcome next' → Grows shape 0 (change e) level number next (body_with change level body) (outcome_with level outcome) next'
+  grows_with shape e level number next es outcome next' (here h) =
+      here (subst (λ (m : List Entry). Settles shape zero number next m (outcome_with zero outcome) next') (map-append change es (e ∷ [])) (settles_with shape zero number next (es ++ e ∷ []) outcome next' h))
+  grows_with shape e (suc level) number next branches outcome next' (below front b back under mid split chosen grows settles) =
+      below (map (branch_with level) front) (branch_with level b) (map (branch_with level) back) (outcome_with level under) mid
+      (ap (map (branch_with level)) split ∙ map-append (branch_with level) front (b ∷ back))
+      (subst (λ (q : Rectangle). IsChosen (rects (suc level) (map (branch_with level) front)) b.rect (rects (suc level) (map (branch_with level) back)) q) (sym (keeps.rect e)) (chosen_with level front b.rect back e.rect chosen))
+      (grows_with shape e level b.number next b.body under mid grows)
+      (subst (λ (m : Body (suc level)). Settles shape (suc level) number mid m (outcome_with (suc level) outcome) next') (put_with level front under back) (settles_with shape (suc level) number mid (with_outcome front under back) outcome next' settles))
 
   reaches_with : (level number : ℕ) (body : Body level) (q : Rectangle) (leaf : ℕ) → Reaches level number body q leaf → Reaches level number (body_with change level body) q leaf
   reaches_with zero number es q leaf h = h
@@ -147,12 +142,12 @@ module _ (change : Entry → Entry) (keeps : Keeps change) where
   -- a tree with changed marks grows by the entry with changed marks as the tree does
   pub grown_with : (t : Table) (e : Entry) (t' : Table) → IsGrown t e t' → IsGrown (table_with change t) (change e) (table_with change t')
   grown_with t e t' h =
-      subst (λ (l : ℕ). (outcome : Outcome (Body l)) (next : ℕ) → Grows t.shape l t.root t.next (body_at (look (table_with change t).nodes) l t.root) (change e) outcome next → IsRoot l outcome next (table_with change t') → IsGrown (table_with change t) (change e) (table_with change t'))
+      subst (λ (l : ℕ). (outcome : Outcome (Body l)) (next : ℕ) → Grows t.shape 0 (change e) l t.root t.next (body_at (look (table_with change t).nodes) l t.root) outcome next → IsRoot l outcome next (table_with change t') → IsGrown (table_with change t) (change e) (table_with change t'))
       (level_with change keeps t)
       (λ outcome next grows root. record { outcome = outcome; next = next; grows = grows; root = root; shape = h.shape })
       (outcome_with (level_of t) h.outcome) h.next
-      (subst (λ (b : Body (level_of t)). Grows t.shape (level_of t) t.root t.next b (change e) (outcome_with (level_of t) h.outcome) h.next) (sym (body_is t (level_of t) t.root))
-      (grows_with t.shape (level_of t) t.root t.next (body_at (look t.nodes) (level_of t) t.root) e h.outcome h.next h.grows))
+      (subst (λ (b : Body (level_of t)). Grows t.shape 0 (change e) (level_of t) t.root t.next b (outcome_with (level_of t) h.outcome) h.next) (sym (body_is t (level_of t) t.root))
+      (grows_with t.shape e (level_of t) t.root t.next (body_at (look t.nodes) (level_of t) t.root) h.outcome h.next h.grows))
       (root_with (level_of t) h.outcome h.next t' h.root)
 
 -- two rules that want the same have the same needs
