@@ -1,0 +1,9 @@
+//! The two files of one journal: which of them is current, and what the two hold together.
+#![tactic(auto)]
+
+mod choice;
+mod looking;
+mod pair;
+
+pub use choice::Choice;
+pub use pair::{Chosen, Pair};
