@@ -6,4 +6,4 @@ mod looking;
 mod pair;
 
 pub use choice::Choice;
-pub use pair::{Chosen, Pair};
+pub use pair::{Chosen, Pair, choose, inspect_pair};
