@@ -4,6 +4,8 @@
 mod choice;
 mod looking;
 mod pair;
+#[cfg(test)]
+mod tests;
 
 pub use choice::Choice;
 pub use pair::{Chosen, Pair, choose, inspect_pair};
