@@ -1,5 +1,6 @@
-// The same insertions and searches as sp_bench does, by Boost.Geometry's rtree with the quadratic split and
-// 16 members a node. Prints seconds of insertions, seconds of searches, and how many values were found.
+// The same insertions, searches and removals as sp_bench does, by Boost.Geometry's rtree with the quadratic split and
+// 16 members a node. Prints seconds of insertions, seconds of searches, how many values were found, and
+// seconds of removals.
 #include <boost/geometry.hpp>
 #include <boost/geometry/index/rtree.hpp>
 #include <chrono>
@@ -38,7 +39,12 @@ int main(int argc, char **argv) {
     using Clock = std::chrono::steady_clock;
     bgi::rtree<Value, bgi::quadratic<16, 6>> tree;
     auto start = Clock::now();
-    for (std::uint64_t i = 0; i < count; ++i) tree.insert(Value(square(side), i));
+    std::vector<Value> values;
+    values.reserve(count);
+    for (std::uint64_t i = 0; i < count; ++i) {
+        values.push_back(Value(square(side), i));
+        tree.insert(values.back());
+    }
     auto middle = Clock::now();
     std::uint64_t found = 0;
     std::vector<Value> hits;
@@ -48,6 +54,8 @@ int main(int argc, char **argv) {
         found += hits.size();
     }
     auto end = Clock::now();
-    std::chrono::duration<double> insertions = middle - start, queries = end - middle;
-    std::printf("%.6f %.6f %llu\n", insertions.count(), queries.count(), static_cast<unsigned long long>(found));
+    for (std::uint64_t i = 0; i < count; ++i) tree.remove(values[i * 7919 % count]);
+    auto emptied = Clock::now();
+    std::chrono::duration<double> insertions = middle - start, queries = end - middle, removals = emptied - end;
+    std::printf("%.6f %.6f %llu %.6f\n", insertions.count(), queries.count(), static_cast<unsigned long long>(found), removals.count());
 }

@@ -39,6 +39,7 @@ fn main(rt: HostRuntime) -> ExitCode {
             };
             let done = match kind.as_str() {
                 "trees" => trees::run(rt.alloc(), first, second),
+                "removals" => trees::run_removals(rt.alloc(), first, second),
                 "locks" => locks::run(rt.alloc(), first, second),
                 "regions" => regions::run(rt.alloc(), first, second),
                 _ => return ExitCode::from(NO_WORK),

@@ -95,9 +95,10 @@ fn settle(alloc: Global, tree: &Tree, changed: Planned<'_>) -> Result<Plan, Allo
 /// level, from the highest level to the lowest, in the order in which they stood. Last, a root that is no
 /// leaf and has one child is replaced by that child, as often as that holds.
 ///
-/// The plan has exactly the nodes that differ, by ascending number. The one error is want of memory. Costs
-/// the inner nodes whose rectangles enclose the entry's, and for each orphan the members of the nodes on one
-/// path, squared where a node is split.
+/// The plan has exactly the nodes that differ, by ascending number. The one error is want of memory; that the
+/// way to the entry's leaf is always found is shown by tests, and no clause says it. Costs the inner nodes
+/// whose rectangles enclose the entry's, and for each orphan the members of the nodes on one path, squared
+/// where a node is split.
 pub fn remove(alloc: Global, tree: &Tree, entry: u64) -> Result<Plan, AllocError>
     requires there { IsSome (leaf_with tree.now.table.nodes entry) }
     requires numbers { tree.now.table.next < 2 ^ 63 + 2 ^ 32 }

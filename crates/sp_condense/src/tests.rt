@@ -317,8 +317,10 @@ fn emptied(
     for step in 0..rects.len() {
         draw = next_draw(draw);
         if let Some(at) = next_there(there.as_slice(), (draw % 300) as usize) {
-            take(alloc, tree, at as u64 + 1)?;
-            there[at] = false;
+            take(alloc, tree, (at as u64).saturating_add(1))?;
+            if at < there.len() {
+                there[at] = false;
+            }
         }
         if step % 20 == 0 && !all_agree(alloc, tree, rects, there.as_slice(), 5)? {
             return Ok(false);
