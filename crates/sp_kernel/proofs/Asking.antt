@@ -30,8 +30,8 @@ use Rattle.sp_kernel.specs.declared.session.Stage.TheVariants.{Idle, Started, Na
 use Rattle.sp_kernel.specs.State.{Kernel, entries_in, is_active_stage, session_at, at_stage, staged}
 use Rattle.sp_kernel.specs.Refusals.{under_way}
 use Rattle.sp_kernel.specs.Moves.{Requests, IsGranted, HasToWait, ClosesCycle}
-use Rattle.sp_kernel.specs.Plans.{object_of, HasNeeds, Stays, Adds, is_held}
-use Rattle.sp_kernel.specs.Soundness.{MayHave, SharesLatch, HoldsObject, AwaitsObject, is_met, IsPlanned, HoldsStage, is_queued, Sound}
+use Rattle.sp_kernel.specs.Plans.{object_of, HasNeeds, Stays, Adds, is_held, HasRectangle}
+use Rattle.sp_kernel.specs.Soundness.{MayHave, SharesLatch, HoldsObject, AwaitsObject, is_met, IsPlanned, HoldsStage, is_queued, Sound, OfStage}
 use Rattle.sp_kernel.proofs.Sessions.{found-among}
 use Rattle.sp_kernel.proofs.Holding.{in-among, to_held, to_met, StayMet, met-held, held-stays, met-stays, object-stays, released-short}
 use Rattle.sp_kernel.proofs.Locking.{locked-there, locked-stays, waiting-met}
@@ -179,8 +179,8 @@ module _ (k : Kernel) (x : Session) (sound : Sound k) (here : Among x k.sessions
   planned-awake op left at = awake x.txn.session k.locks (λ row i e. own (Planned op left) at row i e)
 
   started-fits : (op : Op) (name : Name) (mode : Mode) (stage : Stage) → x.stage ≡ Started op → object_of op ≡ Some (name, mode) → is_active_stage stage ≡ true → is_queued stage ≡ false → under_way stage ≡ 1
-      → ((other : Stage) → SharesLatch stage other × SharesLatch other stage) → FitsRequest k x name stage
-  started-fits op name mode stage at asked active' unqueued' one shares = record {
+      → ((other : Stage) → SharesLatch stage other × SharesLatch other stage) → (HasRectangle op → OfStage HasRectangle stage) → FitsRequest k x name stage
+  started-fits op name mode stage at asked active' unqueued' one shares in_space = record {
     here = here;
     active = told (λ (z : Stage). is_active_stage z ≡ true) x at refl;
     active' = active';
@@ -189,12 +189,13 @@ module _ (k : Kernel) (x : Session) (sound : Sound k) (here : Among x k.sessions
     awake = started-awake op at;
     used = λ number on. absurd (object-no_granule op name mode number asked on);
     shares = λ y i e. shares y.stage;
+    in_space = in_space (subst (OfStage HasRectangle) at (sound.in_space x here));
     no_more = told (λ (z : Stage). under_way stage ≤ under_way z) x at (subst (λ n. n ≤ 1) (sym one) (omega arith));
   }
 
   planned-fits : (op : Op) (need : Need) (left : List Need) (stage : Stage) → x.stage ≡ Planned op (need ∷ left) → IsPlanned k x op (need ∷ left) → is_active_stage stage ≡ true → is_queued stage ≡ false → under_way stage ≡ 1
-      → ((y : Session) → Among y k.sessions → y.txn.session ≢ x.txn.session → SharesLatch stage y.stage × SharesLatch y.stage stage) → FitsRequest k x need.name stage
-  planned-fits op need left stage at plan active' unqueued' one shares = record {
+      → ((y : Session) → Among y k.sessions → y.txn.session ≢ x.txn.session → SharesLatch stage y.stage × SharesLatch y.stage stage) → (HasRectangle op → OfStage HasRectangle stage) → FitsRequest k x need.name stage
+  planned-fits op need left stage at plan active' unqueued' one shares in_space = record {
     here = here;
     active = told (λ (z : Stage). is_active_stage z ≡ true) x at refl;
     active' = active';
@@ -203,6 +204,7 @@ module _ (k : Kernel) (x : Session) (sound : Sound k) (here : Among x k.sessions
     awake = planned-awake op (need ∷ left) at;
     used = λ number on. let g = needs-there k x op plan.commit plan.short plan.needs need (plan.only need (inl refl)) number on in subst (λ n. n < k.tree.next) g.2 (granule-below k.tree sound.valid g.0 g.1);
     shares = shares;
+    in_space = in_space (subst (OfStage HasRectangle) at (sound.in_space x here));
     no_more = told (λ (z : Stage). under_way stage ≤ under_way z) x at (subst (λ n. n ≤ 1) (sym one) (omega arith));
   }
 
@@ -211,7 +213,7 @@ pub names-sound : (k : Kernel) (s : ℕ) (x : Session) (op : Op) (name : Name) (
     → Requests k x name mode Commit (Named op) (NameWait op) answer after → Sound after
 names-sound k s x op name mode _ _ sound found at asked (IsGranted free) =
     let here = (found-among s k.sessions x found).0 in
-    granted-sound k x name mode Commit (Named op) sound (started-fits k x sound here op name mode (Named op) at asked refl refl refl (shares-named op)) free (own k x sound here (Started op) at) (refl, refl) holds
+    granted-sound k x name mode Commit (Named op) sound (started-fits k x sound here op name mode (Named op) at asked refl refl refl (shares-named op) (λ h. h)) free (own k x sound here (Started op) at) (refl, refl) holds
   where
     rows : List Row
     rows = with_row_on (row_of x.txn.session name mode Commit false) k.locks
@@ -223,7 +225,7 @@ names-sound k s x op name mode _ _ sound found at asked (IsGranted free) =
         (subst (λ (m : Mode). is_held rows x.txn.session (record { name = name; mode = m; duration = Commit }) ≡ true) o.1 (granted-held x.txn.session name mode k.locks))
 names-sound k s x op name mode _ _ sound found at asked (HasToWait stuck open_end) =
     let here = (found-among s k.sessions x found).0 in
-    waits-sound k x name mode Commit (NameWait op) sound (started-fits k x sound here op name mode (NameWait op) at asked refl refl refl (shares-name_wait op)) stuck open_end (λ row m. m.1) refl awaits
+    waits-sound k x name mode Commit (NameWait op) sound (started-fits k x sound here op name mode (NameWait op) at asked refl refl refl (shares-name_wait op) (λ h. h)) stuck open_end (λ row m. m.1) refl awaits
   where
     left : List Row
     left = released ShortLocks x.txn.session k.locks
@@ -249,7 +251,7 @@ asks-sound k s x op need left _ _ sound found at (IsGranted free) =
     let here = (found-among s k.sessions x found).0 in
     let h : HoldsStage k x (Planned op (need ∷ left)) = subst (HoldsStage k x) at (sound.stages x here) in
     granted-sound k x need.name need.mode need.duration (Planned op left) sound
-    (planned-fits k x sound here op need left (Planned op left) at h.1 refl refl refl (λ y i e. shares-left op (need ∷ left) left y.stage (subst (λ (z : Stage). SharesLatch z y.stage) at (sound.latch x y here i (λ f. e (sym f)))) (subst (λ (z : Stage). SharesLatch y.stage z) at (sound.latch y x i here e))))
+    (planned-fits k x sound here op need left (Planned op left) at h.1 refl refl refl (λ y i e. shares-left op (need ∷ left) left y.stage (subst (λ (z : Stage). SharesLatch z y.stage) at (sound.latch x y here i (λ f. e (sym f)))) (subst (λ (z : Stage). SharesLatch y.stage z) at (sound.latch y x i here e))) (λ h. h))
     free (own k x sound here (Planned op (need ∷ left)) at) refl (object-stays x.txn.session k.locks rows (met-held x.txn.session k.locks rows stay) op h.0, planned h.1)
   where
     rows : List Row
@@ -285,7 +287,7 @@ asks-sound k s x op need left _ _ sound found at (IsGranted free) =
 asks-sound k s x op need left _ _ sound found at (HasToWait stuck open_end) =
     let here = (found-among s k.sessions x found).0 in
     let h : HoldsStage k x (Planned op (need ∷ left)) = subst (HoldsStage k x) at (sound.stages x here) in
-    waits-sound k x need.name need.mode need.duration (NeedWait op) sound (planned-fits k x sound here op need left (NeedWait op) at h.1 refl refl refl (λ y i e. shares-need_wait op y.stage)) stuck open_end (λ row m w. m.1) (λ w. absurd (true≢false w))
+    waits-sound k x need.name need.mode need.duration (NeedWait op) sound (planned-fits k x sound here op need left (NeedWait op) at h.1 refl refl refl (λ y i e. shares-need_wait op y.stage) (λ h. h)) stuck open_end (λ row m w. m.1) (λ w. absurd (true≢false w))
     (object-stays x.txn.session k.locks rows (held-then x.txn.session k.locks gone rows (released-short x.txn.session k.locks) (waiting-met x.txn.session (row_of x.txn.session need.name need.mode need.duration true) gone refl)) op h.0)
   where
     gone : List Row

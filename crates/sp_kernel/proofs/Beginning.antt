@@ -22,7 +22,8 @@ use Rattle.sp_kernel.specs.State.{Kernel, entries_in, is_active, with_session, s
 use Rattle.sp_kernel.specs.Refusals.{open_transactions, open_operations, kept_operations, most_transactions, most_endings, most_operations, most_history, first_unused, under_way, turned_away}
 use Rattle.sp_kernel.specs.Moves.{begun}
 use Rattle.sp_kernel.specs.Stepped.{records_told, most_records_told}
-use Rattle.sp_kernel.specs.Soundness.{AreAscending, SharesLatch, HoldsObject, HoldsStage, is_queued, Sound}
+use Rattle.sp_kernel.specs.Plans.{HasRectangle}
+use Rattle.sp_kernel.specs.Soundness.{AreAscending, SharesLatch, HoldsObject, HoldsStage, is_queued, Sound, OfStage}
 use Rattle.sp_kernel.proofs.Sessions.{none-among, of_with, among-with}
 use Rattle.sp_kernel.proofs.Planned.{stage_stays}
 use Rattle.sp_kernel.proofs.Holding.{HoldsStill, rows-stay, met-held, locks-still, parts-still, marks_owned-still}
@@ -122,6 +123,7 @@ begin-sound k s sound let_in = record {
   };
   latch = λ a b i j apart. latch a b (of_with x k.sessions a i) (of_with x k.sessions b j) apart;
   stages = λ y i. stages y (of_with x k.sessions y i);
+  in_space = λ y i. in_space y (of_with x k.sessions y i);
   rectangles = λ y i a. rectangles y a (of_with x k.sessions y i);
   parts = λ y i a. parts-still (granules k.tree) (locks_of k.sessions k.locks) (locks_of xs k.locks) y.txn.number y.txn.ops (still y.txn.number) (parts y a (of_with x k.sessions y i));
   objects = λ y pair i a j. objects y pair a j (of_with x k.sessions y i);
@@ -226,6 +228,10 @@ begin-sound k s sound let_in = record {
     stages : (y : Session) → (y ≡ x) ⊎ Among y k.sessions → HoldsStage (begun s k) y y.stage
     stages y (inl e) = subst (λ (z : Session). HoldsStage (begun s k) z z.stage) (sym e) tt
     stages y (inr i) = stage_stays k (begun s k) y y.stage refl refl (rows-stay y.txn.session k.locks k.locks (λ row j w. j)) (λ op h. h) (sound.stages y i)
+
+    in_space : (y : Session) → (y ≡ x) ⊎ Among y k.sessions → OfStage HasRectangle y.stage
+    in_space y (inl e) = subst (λ (z : Session). OfStage HasRectangle z.stage) (sym e) tt
+    in_space y (inr i) = sound.in_space y i
 
     rectangles : (y : Session) → is_active y ≡ true → (y ≡ x) ⊎ Among y k.sessions → HasRectangles y.txn.ops
     rectangles y a (inl e) = subst (λ (z : Session). HasRectangles z.txn.ops) (sym e) (λ pair rect i p. absurd i)

@@ -296,6 +296,7 @@ module _ (k : Kernel) (n : ℕ) (rest : List ℕ) (after : Table) (short : List 
     sessions = sound.sessions;
     latch = sound.latch;
     stages = λ y i. stage_from k (cleaned after rest k) y y.stage (λ op left commit short at h. absurd (free y op left i at)) (rows-stay y.txn.session k.locks k.locks (λ row j w. j)) (λ op h. h) (sound.stages y i);
+    in_space = sound.in_space;
     rectangles = sound.rectangles;
     parts = λ y i a pair j. part y (part_of pair.op) (sound.parts y i a pair j);
     objects = sound.objects;

@@ -53,7 +53,7 @@ same_dead : (es : List Entry) (e : Entry) → Among e es → is_done e.marks.end
 same_dead es e i d = (e, i, d, λ t h. h)
 
 -- an operation marks what is not dead, and lets nothing die
-marks_alive : (t : ℕ) (op : Op) (e : Entry) → is_done (marked_by t op e).marks.ended ≡ true → (is_done e.marks.ended ≡ true) × (marked_by t op e ≡ e)
+pub marks_alive : (t : ℕ) (op : Op) (e : Entry) → is_done (marked_by t op e).marks.ended ≡ true → (is_done e.marks.ended ≡ true) × (marked_by t op e ≡ e)
 marks_alive t op e = go op
   where
     alive : (c m x d b : Bool) → (((c || m) && not (x || d)) && b) ≡ true → d ≡ true → ⊥
@@ -82,7 +82,7 @@ marked_dead t op es e i d =
     let a = marks_alive t op r.0 (subst (λ (z : Entry). is_done z.marks.ended ≡ true) (sym r.2) d) in
     (r.0, r.1, a.0, λ u h. subst (IsUntouched u) (sym a.1 ∙ r.2) h)
 
-marks_keep : (t : ℕ) (op : Op) → Keeps (marked_by t op)
+pub marks_keep : (t : ℕ) (op : Op) → Keeps (marked_by t op)
 marks_keep t op = record { number = λ e. number e (is_changed t op e); id = λ e. id e (is_changed t op e); rect = λ e. rect e (is_changed t op e) }
   where
     number : (e : Entry) (b : Bool) → (cond b (marked (marks_by t op e.marks) e) e).number ≡ e.number
@@ -156,7 +156,7 @@ module _ (k : Kernel) (sound : Sound k) (dead : IsDeadUntouched k) where
   begin_untouched IsRemoved s _ _ (Does.Begins _) = dead-begun (record { txn = record { number = k.next_txn; session = s; seen = length k.commits; ops = []; searches = [] }; stage = Idle }) refl
 
   start_untouched : (IsRemoved : Table → ℕ → Table → Type 0) (s : ℕ) (op : Op) (answer : Answer) (after : Kernel) → turned_away k (Start s op) ≡ None → Does IsRemoved k (Start s op) answer after → IsDeadUntouched after
-  start_untouched IsRemoved s op _ _ free (Does.Starts _ x _ found) = dead-staged s x found (ap is_active_stage (may_start k s op x found free).idle) (Started op)
+  start_untouched IsRemoved s op _ _ free (Does.Starts _ x _ found in_space) = dead-staged s x found (ap is_active_stage (may_start k s op x found free).idle) (Started op)
 
   name_untouched : (IsRemoved : Table → ℕ → Table → Type 0) (s : ℕ) (answer : Answer) (after : Kernel) → Does IsRemoved k (AskName s) answer after → IsDeadUntouched after
   name_untouched IsRemoved s _ _ (Does.NamesNothing _ x op found started none) = dead-staged s x found (ap is_active_stage started) (Named op)

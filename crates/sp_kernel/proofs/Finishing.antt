@@ -24,7 +24,8 @@ use Rattle.sp_kernel.proofs.Awake.{may-have, awake, released-awake, released-lon
 use Rattle.sp_kernel.proofs.Restaging.{restaged-sound}
 use Rattle.sp_kernel.proofs.Staging.{told}
 
-shares-idle : (stage : Stage) → SharesLatch Idle stage × SharesLatch stage Idle
+-- an idle session shares the latch with all
+pub shares-idle : (stage : Stage) → SharesLatch Idle stage × SharesLatch stage Idle
 shares-idle Idle = (tt, tt)
 shares-idle (Started o) = (tt, tt)
 shares-idle (NameWait o) = (tt, tt)
@@ -53,6 +54,7 @@ finished-sound k x op left sound here at = restaged-sound k x Idle rows sound (r
   met = λ y i e. released-others ShortLocks s y.txn.session k.locks e;
   awaits = λ y o i e h. released-awaits_object ShortLocks s y.txn.session k.locks o e h;
   shares = λ y i e. shares-idle y.stage;
+  in_space = tt;
   at = tt;
   counts = counts-no_more k x Idle rows sound.sessions.ascending sound.counts here active refl (least (under_way x.stage));
 })

@@ -22,7 +22,8 @@ use Rattle.sp_kernel.specs.State.{Kernel, entries_in, is_active, is_active_stage
 use Rattle.sp_kernel.specs.Refusals.{open_transactions, under_way, most_operations}
 use Rattle.sp_kernel.specs.Moves.{dead_among, newly_dead, with_stage, placed_commit, placed_found, placed_each, placed_all, taken_off}
 use Rattle.sp_kernel.specs.Stepped.{records_told}
-use Rattle.sp_kernel.specs.Soundness.{AreAscending, SoundSessions, RowsOwned, MayHave, HasOwner, SharesLatch, HoldsObject, HoldsStage, DeadListed, is_queued, QueueSound, Sound}
+use Rattle.sp_kernel.specs.Plans.{HasRectangle}
+use Rattle.sp_kernel.specs.Soundness.{AreAscending, SoundSessions, RowsOwned, MayHave, HasOwner, SharesLatch, HoldsObject, HoldsStage, DeadListed, is_queued, QueueSound, Sound, OfStage}
 use Rattle.sp_kernel.proofs.Sessions.{one-session, found-among, none-among, changed-among, others-among, Fate, Changes, Stays, fate, of_change}
 use Rattle.sp_kernel.proofs.Holding.{HoldsStill, rows-stay, met-held, locks-still, parts-still, marks_owned-still}
 use Rattle.sp_kernel.proofs.Counting.{length-sum, share, change-sum}
@@ -53,6 +54,7 @@ listed-sound k dead queue flight calls sound listed queued = record {
   sessions = sound.sessions;
   latch = sound.latch;
   stages = λ x i. stage_stays k (listed_anew dead queue flight calls k) x x.stage refl refl (rows-stay x.txn.session k.locks k.locks (λ row j w. j)) (λ op h. h) (sound.stages x i);
+  in_space = sound.in_space;
   rectangles = sound.rectangles;
   parts = sound.parts;
   objects = sound.objects;
@@ -201,6 +203,10 @@ module _ (k : Kernel) (x : Session) (sound : Sound k) (here : Among x k.sessions
   marks t y a n _ (Changes e) j = (at_stage Queued y, j, refl, n)
   marks t y a n _ (Stays e) j = (y, j, a, n)
 
+  in_space : (z y : Session) → Among z k.sessions → Fate x.txn.session (at_stage Queued) z y → OfStage HasRectangle y.stage
+  in_space z _ j (Changes e) = tt
+  in_space z _ j (Stays e) = sound.in_space z j
+
   operations : (z y : Session) → Among z k.sessions → Fate x.txn.session (at_stage Queued) z y → is_active y ≡ true → length y.txn.ops + under_way y.stage ≤ most_operations
   operations z _ j (Changes e) a = let l = sound.counts.operations z j (active-at z j e) in omega (arith, l)
   operations z _ j (Stays e) a = sound.counts.operations z j a
@@ -221,6 +227,7 @@ module _ (k : Kernel) (x : Session) (sound : Sound k) (here : Among x k.sessions
     sessions = sessions-staged k.next_txn (length k.commits) x.txn.session Queued k.sessions sound.sessions;
     latch = latch-staged x Queued k.sessions sound.latch (λ y i other. (tt, shares_queued y.stage));
     stages = λ y i. let o = of_change x.txn.session (at_stage Queued) k.sessions y i in stages o.old y o.stood o.how;
+    in_space = λ y i. let o = of_change x.txn.session (at_stage Queued) k.sessions y i in in_space o.old y o.stood o.how;
     rectangles = λ y i a. let o = of_change x.txn.session (at_stage Queued) k.sessions y i in rectangles o.old y o.stood o.how a;
     parts = λ y i a. let o = of_change x.txn.session (at_stage Queued) k.sessions y i in
         parts-still (granules k.tree) (locks_of k.sessions k.locks) (locks_of (staged x.txn.session Queued k.sessions) k.locks) y.txn.number y.txn.ops (still y.txn.number) (parts o.old y o.stood o.how a);

@@ -22,7 +22,8 @@ use Rattle.sp_kernel.specs.declared.session.Session.{Session}
 use Rattle.sp_kernel.specs.declared.session.Stage.{Stage}
 use Rattle.sp_kernel.specs.declared.session.Stage.TheVariants.{Idle, Started, NameWait, Named, NeedWait, Planned, Queued, Placed}
 use Rattle.sp_kernel.specs.State.{Kernel, entries_in, is_active, is_active_stage, locks_of}
-use Rattle.sp_kernel.specs.Soundness.{SoundSessions, RowsOwned, NamesUsed, SharesLatch, LatchShared, AwaitsObject, HoldsStage, DeadListed, QueueSound, WithinCounts, Sound}
+use Rattle.sp_kernel.specs.Plans.{HasRectangle}
+use Rattle.sp_kernel.specs.Soundness.{SoundSessions, RowsOwned, NamesUsed, SharesLatch, LatchShared, AwaitsObject, HoldsStage, DeadListed, QueueSound, WithinCounts, Sound, OfStage}
 use Rattle.sp_kernel.proofs.Sessions.{one-session, one-keyed}
 use Rattle.sp_kernel.proofs.Holding.{StayMet, met-held, object-stays, HoldsStill, locks-still, parts-still, owned-still}
 use Rattle.sp_kernel.proofs.Planned.{standing_same, MarksChange, same_granules, changed_entries, LeavesSight, stage_with}
@@ -118,6 +119,13 @@ module _ (change : Entry → Entry) (x : Session) (k k' : Kernel) (sound : Sound
       go (inl h) = stage_with change k k' y y.stage ends.marks (λ op left e. ends.sight y op left h.0 h.1 e) (ends.held y h.0 h.1) (λ op. ends.awaits y op h.0 h.1) (sound.stages y h.0)
       go (inr h) = subst (λ (s : Stage). HoldsStage k' y s) (sym h) tt
 
+  in_space : (y : Session) → Among y k'.sessions → OfStage HasRectangle y.stage
+  in_space y i = go (ends.was y i)
+    where
+      go : (Among y k.sessions × (y.txn.session ≢ x.txn.session)) ⊎ (y.stage ≡ Placed) → OfStage HasRectangle y.stage
+      go (inl h) = sound.in_space y h.0
+      go (inr h) = subst (OfStage HasRectangle) (sym h) tt
+
   parts : (y : Session) → Among y k'.sessions → is_active y ≡ true → HoldsParts (granules k'.tree) (locks_of k'.sessions k'.locks) y.txn.number y.txn.ops
   parts y i active =
       let o = old y i active in
@@ -141,6 +149,7 @@ module _ (change : Entry → Entry) (x : Session) (k k' : Kernel) (sound : Sound
     sessions = ends.sessions;
     latch = latch;
     stages = stages;
+    in_space = in_space;
     rectangles = λ y i active. sound.rectangles y (old y i active).0 active;
     parts = parts;
     objects = λ y pair i active j. let o = old y i active in

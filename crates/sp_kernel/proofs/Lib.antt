@@ -20,10 +20,13 @@ pub mod Ends
 pub mod Beginning
 pub mod Requesting
 pub mod Asking
-pub mod UpToLast
+pub mod Starts
 pub mod Stepping
 pub mod Untouched
 pub mod Dying
 pub mod Entering
 pub mod OneByOne
 pub mod Finishing
+pub mod Operating
+pub mod Ready
+pub mod Marking

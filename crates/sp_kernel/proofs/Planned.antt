@@ -271,6 +271,10 @@ inserted_with change t e t' keeps fixed h = record {
   grown = subst (λ (x : Entry). IsGrown (table_with change t) x (table_with change t')) fixed (grown_with change keeps t e t' h.grown);
   valid = valid_with change keeps t' h.valid;
   ascending = ascending_with change keeps t'.nodes h.ascending;
+  same = λ f g i j n.
+      let a = from_map change f (entries_of t) (subst (Among f) (entries_of_with change keeps t) i) in
+      let b = from_map change g (entries_of t') (subst (Among g) (entries_of_with change keeps t') j) in
+      sym a.2 ∙ ap change (h.same a.0 b.0 a.1 b.1 (sym (keeps.number a.0) ∙ ap (λ (x : Entry). x.number) a.2 ∙ n ∙ sym (ap (λ (x : Entry). x.number) b.2) ∙ keeps.number b.0)) ∙ b.2;
 }
 
 -- the needs of an operation stay under a change of marks that it doesn't see

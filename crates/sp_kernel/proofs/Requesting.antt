@@ -27,7 +27,8 @@ use Rattle.sp_kernel.specs.declared.session.Session.{Session}
 use Rattle.sp_kernel.specs.declared.session.Stage.{Stage}
 use Rattle.sp_kernel.specs.State.{Kernel, is_active, is_active_stage, at_stage, staged}
 use Rattle.sp_kernel.specs.Refusals.{under_way}
-use Rattle.sp_kernel.specs.Soundness.{MayHave, HasOwner, RowsOwned, SharesLatch, HoldsStage, is_queued, Sound}
+use Rattle.sp_kernel.specs.Plans.{HasRectangle}
+use Rattle.sp_kernel.specs.Soundness.{MayHave, HasOwner, RowsOwned, SharesLatch, HoldsStage, is_queued, Sound, OfStage}
 use Rattle.sp_kernel.proofs.Sessions.{number-tell, number-same, number-differ, changed-among}
 use Rattle.sp_kernel.proofs.Holding.{in-among, among-in, StayMet, StayHeld, met-held, released-others, released-short}
 use Rattle.sp_kernel.proofs.Released.{ComesOf, may-come, released-owned, released-names, released-awaits_object}
@@ -143,6 +144,7 @@ pub record FitsRequest (k : Kernel) (x : Session) (name : Name) (stage : Stage) 
   pub awake : waiting_in x.txn.session k.locks ≡ None
   pub used : (number : ℕ) → name ≡ OnGranule number → number < k.tree.next
   pub shares : (y : Session) → Among y k.sessions → y.txn.session ≢ x.txn.session → SharesLatch stage y.stage × SharesLatch y.stage stage
+  pub in_space : OfStage HasRectangle stage
   pub no_more : under_way stage ≤ under_way x.stage
 
 pub granted-sound : (k : Kernel) (x : Session) (name : Name) (mode : Mode) (duration : Duration) (stage : Stage) → Sound k → FitsRequest k x name stage
@@ -165,6 +167,7 @@ granted-sound k x name mode duration stage sound fits free may may_r at = restag
   met = λ y i e. locked-stays y.txn.session r k.locks refl;
   awaits = λ y op i e h. locked-awaits_object y.txn.session r k.locks op refl h;
   shares = fits.shares;
+  in_space = fits.in_space;
   at = at;
   counts = counts-no_more k x stage rows sound.sessions.ascending sound.counts fits.here fits.active fits.active' fits.no_more;
 })
@@ -228,6 +231,7 @@ waits-sound k x name mode duration stage sound fits stuck open_end may may_r at 
   met = λ y i e. met-then y.txn.session k.locks left rows (released-others ShortLocks s y.txn.session k.locks e) (waiting-met y.txn.session r left refl);
   awaits = λ y op i e h. waiting-awaits_object y.txn.session r left op refl (released-awaits_object ShortLocks s y.txn.session k.locks op e h);
   shares = fits.shares;
+  in_space = fits.in_space;
   at = at;
   counts = counts-no_more k x stage rows sound.sessions.ascending sound.counts fits.here fits.active fits.active' fits.no_more;
 })

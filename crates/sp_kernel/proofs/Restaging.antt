@@ -14,8 +14,8 @@ use Rattle.sp_protection.proofs.Leaves.{among_map}
 use Rattle.sp_kernel.specs.declared.session.Session.{Session}
 use Rattle.sp_kernel.specs.declared.session.Stage.{Stage}
 use Rattle.sp_kernel.specs.State.{Kernel, entries_in, is_active, is_active_stage, is_session, with_change, at_stage, staged, searched, locks_of}
-use Rattle.sp_kernel.specs.Plans.{HasNeeds, Stays as Needs_stay, Adds}
-use Rattle.sp_kernel.specs.Soundness.{AreAscending, SoundSessions, RowsOwned, NamesUsed, SharesLatch, LatchShared, HoldsObject, AwaitsObject, HoldsStage, is_queued, QueueSound, WithinCounts, Sound}
+use Rattle.sp_kernel.specs.Plans.{HasNeeds, Stays as Needs_stay, Adds, HasRectangle}
+use Rattle.sp_kernel.specs.Soundness.{AreAscending, SoundSessions, RowsOwned, NamesUsed, SharesLatch, LatchShared, HoldsObject, AwaitsObject, HoldsStage, is_queued, QueueSound, WithinCounts, Sound, OfStage}
 use Rattle.sp_kernel.proofs.Sessions.{Fate, Changes, Stays, fate, of_change, others-among, one-session}
 use Rattle.sp_kernel.proofs.Planned.{stage_stays}
 use Rattle.sp_kernel.proofs.Holding.{StayMet, StayHeld, object-stays, StayThere, HoldsStill, locks-still, parts-still, marks_owned-still}
@@ -130,6 +130,7 @@ pub record Fits (k : Kernel) (x : Session) (stage : Stage) (rows : List Row) : T
   pub met : (y : Session) → Among y k.sessions → y.txn.session ≢ x.txn.session → StayMet y.txn.session k.locks rows
   pub awaits : (y : Session) (op : Op) → Among y k.sessions → y.txn.session ≢ x.txn.session → AwaitsObject k.locks y.txn.session op → AwaitsObject rows y.txn.session op
   pub shares : (y : Session) → Among y k.sessions → y.txn.session ≢ x.txn.session → SharesLatch stage y.stage × SharesLatch y.stage stage
+  pub in_space : OfStage HasRectangle stage
   pub at : HoldsStage (with_both (staged x.txn.session stage k.sessions) rows k) (at_stage stage x) stage
   pub counts : WithinCounts (with_both (staged x.txn.session stage k.sessions) rows k)
 
@@ -148,6 +149,7 @@ restaged-sound k x stage rows sound fits = record {
   sessions = sessions-staged k.next_txn (length k.commits) s stage k.sessions sound.sessions;
   latch = latch-staged x stage k.sessions sound.latch fits.shares;
   stages = λ y i. let o = of_change s (at_stage stage) k.sessions y i in stages o.old y o.stood o.how;
+  in_space = λ y i. let o = of_change s (at_stage stage) k.sessions y i in in_space o.old y o.stood o.how;
   rectangles = λ y i a. let o = of_change s (at_stage stage) k.sessions y i in rectangles o.old y o.stood o.how a;
   parts = λ y i a. let o = of_change s (at_stage stage) k.sessions y i in parts-still (granules k.tree) (locks_of k.sessions k.locks) (locks_of xs rows) y.txn.number y.txn.ops (still y.txn.number) (parts o.old y o.stood o.how a);
   objects = λ y pair i a j. let o = of_change s (at_stage stage) k.sessions y i in object-stays y.txn.session k.locks rows (fits.held y.txn.session) pair.op (objects o.old y pair o.stood o.how a j);
@@ -178,6 +180,10 @@ restaged-sound k x stage rows sound fits = record {
     stages : (z y : Session) → Among z k.sessions → Fate s (at_stage stage) z y → HoldsStage (with_both xs rows k) y y.stage
     stages z _ j (Changes e) = subst (λ (w : Session). HoldsStage (with_both xs rows k) (at_stage stage w) stage) (sym (same z j e)) fits.at
     stages z _ j (Stays e) = stage_stays k (with_both xs rows k) z z.stage refl refl (fits.met z j e) (λ op. fits.awaits z op j e) (sound.stages z j)
+
+    in_space : (z y : Session) → Among z k.sessions → Fate s (at_stage stage) z y → OfStage HasRectangle y.stage
+    in_space z _ j (Changes e) = fits.in_space
+    in_space z _ j (Stays e) = sound.in_space z j
 
     rectangles : (z y : Session) → Among z k.sessions → Fate s (at_stage stage) z y → is_active y ≡ true → HasRectangles y.txn.ops
     rectangles z _ j (Changes e) a = sound.rectangles z j (was-active z j e)

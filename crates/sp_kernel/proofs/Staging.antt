@@ -20,8 +20,8 @@ use Rattle.sp_kernel.specs.declared.session.Stage.TheVariants.{Idle, Started, Na
 use Rattle.sp_kernel.specs.State.{Kernel, is_active, is_active_stage, session_at, at_stage, staged}
 use Rattle.sp_kernel.specs.Refusals.{is_search, holds_latch, shares, under_way, most_operations, most_history, kept_operations, open_operations, turned_away}
 use Rattle.sp_kernel.specs.Moves.{with_stage}
-use Rattle.sp_kernel.specs.Plans.{object_of, HasNeeds, Stays, Adds, is_held, is_covered, left_to_ask}
-use Rattle.sp_kernel.specs.Soundness.{MayHave, SharesLatch, HoldsObject, is_met, IsPlanned, HoldsStage, is_queued, WithinCounts, Sound}
+use Rattle.sp_kernel.specs.Plans.{object_of, HasNeeds, Stays, Adds, is_held, is_covered, left_to_ask, HasRectangle}
+use Rattle.sp_kernel.specs.Soundness.{MayHave, SharesLatch, HoldsObject, is_met, IsPlanned, HoldsStage, is_queued, WithinCounts, Sound, OfStage}
 use Rattle.sp_kernel.proofs.Sessions.{found-among, among-kept, of_kept}
 use Rattle.sp_kernel.proofs.Holding.{of_held, to_met, StayMet, rows-stay, met-held}
 use Rattle.sp_kernel.proofs.Limits.{counts-staged, counts-no_more}
@@ -37,10 +37,11 @@ told P x e h = subst P (sym e) h
 pub stage-sound : (k : Kernel) (x : Session) (stage : Stage) → Sound k → Among x k.sessions → is_active x ≡ true → is_active_stage stage ≡ true → is_queued x.stage ≡ false → is_queued stage ≡ false
     → ((row : Row) → Among row k.locks → row.session ≡ x.txn.session → MayHave stage row)
     → ((y : Session) → Among y k.sessions → y.txn.session ≢ x.txn.session → SharesLatch stage y.stage × SharesLatch y.stage stage)
+    → OfStage HasRectangle stage
     → HoldsStage (with_stage x.txn.session stage k) (at_stage stage x) stage
     → WithinCounts (with_stage x.txn.session stage k)
     → Sound (with_stage x.txn.session stage k)
-stage-sound k x stage sound here active active' unqueued unqueued' may shares at counts = restaged-sound k x stage k.locks sound (record {
+stage-sound k x stage sound here active active' unqueued unqueued' may shares in_space at counts = restaged-sound k x stage k.locks sound (record {
   here = here;
   active = active;
   active' = active';
@@ -54,6 +55,7 @@ stage-sound k x stage sound here active active' unqueued unqueued' may shares at
   met = λ y i e. same y.txn.session;
   awaits = λ y op i e h. h;
   shares = shares;
+  in_space = in_space;
   at = at;
   counts = counts;
 })
@@ -82,8 +84,8 @@ shares-named op (Planned o left) = (tt, tt)
 shares-named op Queued = (tt, tt)
 shares-named op Placed = (tt, tt)
 
-pub start-sound : (k : Kernel) (s : ℕ) (x : Session) (op : Op) → Sound k → turned_away k (Start s op) ≡ None → session_at s k.sessions ≡ Some x → Sound (with_stage s (Started op) k)
-start-sound k s x op sound let_in found =
+pub start-sound : (k : Kernel) (s : ℕ) (x : Session) (op : Op) → Sound k → turned_away k (Start s op) ≡ None → session_at s k.sessions ≡ Some x → HasRectangle op → Sound (with_stage s (Started op) k)
+start-sound k s x op sound let_in found in_space =
     let f = found-among s k.sessions x found in
     let m = may_start k s op x found let_in in
     let active : is_active x ≡ true = told (λ (stage : Stage). is_active_stage stage ≡ true) x m.idle refl in
@@ -91,6 +93,7 @@ start-sound k s x op sound let_in found =
     (stage-sound k x (Started op) sound f.0 active refl (told (λ (stage : Stage). is_queued stage ≡ false) x m.idle refl) refl
     (λ row i e. subst (λ (stage : Stage). MayHave stage row) m.idle (may-have k.sessions k.locks sound.sessions.ascending sound.rows x f.0 row i e))
     (λ y i e. shares-started op y.stage)
+    in_space
     tt
     (counts-staged k x (Started op) k.locks sound.sessions.ascending sound.counts f.0 active refl (more (length x.txn.ops) most_operations m.operations) (room (kept_operations k.commits + open_operations k.sessions) most_history (under_way x.stage) m.history)))
   where
@@ -109,6 +112,7 @@ names_nothing-sound k s x op sound found at none =
     (stage-sound k x (Named op) sound f.0 active refl (told (λ (stage : Stage). is_queued stage ≡ false) x at refl) refl
     (λ row i e. subst (λ (stage : Stage). MayHave stage row) at (may-have k.sessions k.locks sound.sessions.ascending sound.rows x f.0 row i e))
     (λ y i e. shares-named op y.stage)
+    (subst (OfStage HasRectangle) at (sound.in_space x f.0))
     (λ name mode e. absurd (some (name, mode) (sym none ∙ e)))
     (counts-no_more k x (Named op) k.locks sound.sessions.ascending sound.counts f.0 active refl (told (λ (stage : Stage). 1 ≤ under_way stage) x at (omega arith))))
   where
@@ -125,6 +129,7 @@ has_waited-sound k s x op sound let_in found at =
     (stage-sound k x (Named op) sound f.0 active refl (told (λ (stage : Stage). is_queued stage ≡ false) x at refl) refl
     (λ row i e. (of_awake x.txn.session k.locks none row i e, subst (λ (stage : Stage). MayHave stage row) at (may-have k.sessions k.locks sound.sessions.ascending sound.rows x f.0 row i e)))
     (λ y i e. shares-named op y.stage)
+    (subst (OfStage HasRectangle) at (sound.in_space x f.0))
     (λ name mode e. holds none name mode (subst (HoldsStage k x) at (sound.stages x f.0) name mode e))
     (counts-no_more k x (Named op) k.locks sound.sessions.ascending sound.counts f.0 active refl (told (λ (stage : Stage). 1 ≤ under_way stage) x at (omega arith))))
   where
@@ -216,6 +221,7 @@ plan-sound k s x op commit short sound let_in found at needs =
     (stage-sound k x (Planned op (left_to_ask k.locks x.txn.session commit short)) sound f.0 active refl (either (λ (stage : Stage). is_queued stage ≡ false) refl refl at) refl
     (λ row i e. of_awake x.txn.session k.locks none row i e)
     (λ y i e. latched y.stage (left_to_ask k.locks x.txn.session commit short) (plan-latch k s x y found let_in i (λ g. e (g ∙ sym f.1))))
+    (in_space (sound.in_space x f.0) at)
     (object (sound.stages x f.0) at, planned (left-planned k x op commit short needs))
     (counts-no_more k x (Planned op (left_to_ask k.locks x.txn.session commit short)) k.locks sound.sessions.ascending sound.counts f.0 active refl (either (λ (stage : Stage). 1 ≤ under_way stage) (omega arith) (omega arith) at)))
   where
@@ -226,6 +232,10 @@ plan-sound k s x op commit short sound let_in found at needs =
     object : HoldsStage k x x.stage → (x.stage ≡ Named op) ⊎ (x.stage ≡ NeedWait op) → HoldsObject k.locks x.txn.session op
     object h (inl e) = subst (HoldsStage k x) e h
     object h (inr e) = subst (HoldsStage k x) e h
+
+    in_space : OfStage HasRectangle x.stage → (x.stage ≡ Named op) ⊎ (x.stage ≡ NeedWait op) → HasRectangle op
+    in_space h (inl e) = subst (OfStage HasRectangle) e h
+    in_space h (inr e) = subst (OfStage HasRectangle) e h
 
     planned : {left : List Need} → IsPlanned k x op left → IsPlanned (with_stage x.txn.session (Planned op left) k) (at_stage (Planned op left) x) op left
     planned {left} h = record {

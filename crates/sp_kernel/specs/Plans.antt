@@ -5,8 +5,8 @@ use Rattle.sp_list.specs.Emptiness.{is_empty}
 use Rattle.sp_rect.specs.declared.record.Record.{Record}
 use Rattle.sp_rect.specs.declared.operation.Op.{Op}
 use Rattle.sp_rect.specs.declared.operation.Op.TheVariants.{Put, Drop, Set, Get, Find, Fill, Clear}
-use Rattle.sp_rect.specs.Plane.{Rectangle}
-use Rattle.sp_rect.specs.Store.{Id, within}
+use Rattle.sp_rect.specs.Plane.{IsRectangle, Rectangle}
+use Rattle.sp_rect.specs.Store.{Id, Area, part_of, within}
 use Rattle.sp_locks.specs.declared.mode.Mode.{Mode}
 use Rattle.sp_locks.specs.declared.mode.Mode.TheVariants.{IX, S, X}
 use Rattle.sp_locks.specs.declared.row.Name.{Name}
@@ -41,6 +41,10 @@ object_of (Find rect) = None
 object_of (Fill rect value) = None
 object_of (Clear rect) = None
 
+-- the area that an operation looks at, where it does, is a rectangle in space
+abbrev pub HasRectangle : Op → Type 0
+HasRectangle op = (rect : Rectangle) → part_of op ≡ Area rect → IsRectangle rect
+
 -- the operation is a put that finds no record of its id: it adds an entry
 abbrev pub adds : Op → List Record → Bool
 adds (Put r) records = is_empty (within (Id r.id) records)
@@ -54,6 +58,8 @@ pub record IsInserted (t : Table) (e : Entry) (t' : Table) : Type 0 where
   pub grown : IsGrown t e t'
   pub valid : IsValid t'
   pub ascending : IsAscending t'.nodes
+  -- a number that both have names the same entry
+  pub same : (f g : Entry) → Among f (entries_of t) → Among g (entries_of t') → f.number ≡ g.number → f ≡ g
 
 -- the tree that a put leaves, and the leaf that is chosen for its entry
 pub record Inserts (k : Kernel) (x : Session) (r : Record) (after : Table) (chosen : ℕ) : Type 0 where

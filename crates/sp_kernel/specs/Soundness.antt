@@ -31,7 +31,7 @@ use Rattle.sp_kernel.specs.declared.session.Stage.{Stage}
 use Rattle.sp_kernel.specs.declared.session.Stage.TheVariants.{Idle, Started, NameWait, Named, NeedWait, Planned, Queued, Placed}
 use Rattle.sp_kernel.specs.State.{Kernel, entries_in, is_active, searched, locks_of}
 use Rattle.sp_kernel.specs.Refusals.{is_search, under_way, open_transactions, open_operations, kept_operations, most_transactions, most_endings, most_operations, most_history, first_unused}
-use Rattle.sp_kernel.specs.Plans.{object_of, HasNeeds, is_held, is_covered}
+use Rattle.sp_kernel.specs.Plans.{object_of, HasRectangle, HasNeeds, is_held, is_covered}
 use Rattle.sp_kernel.specs.Stepped.{kept_records, most_entries, most_records_told}
 
 -- the sessions stand by ascending number, and have distinct transactions with numbers that are used
@@ -109,6 +109,15 @@ HoldsStage k x (NeedWait op) = HoldsObject k.locks x.txn.session op
 HoldsStage k x (Planned op left) = HoldsObject k.locks x.txn.session op × IsPlanned k x op left
 HoldsStage k x stage = Unit {0}
 
+-- what holds of the operation that is under way
+abbrev pub OfStage : (Op → Type 0) → Stage → Type 0
+OfStage P (Started op) = P op
+OfStage P (NameWait op) = P op
+OfStage P (Named op) = P op
+OfStage P (NeedWait op) = P op
+OfStage P (Planned op left) = P op
+OfStage P stage = Unit {0}
+
 -- each mark is one of an active transaction
 abbrev pub MarksActive : List Session → List Entry → Type 0
 MarksActive sessions es = (t : ℕ) (e : Entry) → Among e es → is_marked t e ≡ true → (x : Session) × Among x sessions × (is_active x ≡ true) × (x.txn.number ≡ t)
@@ -167,6 +176,7 @@ pub record Sound (k : Kernel) : Type 0 where
   pub sessions : SoundSessions k.next_txn (length k.commits) k.sessions
   pub latch : LatchShared k.sessions
   pub stages : (x : Session) → Among x k.sessions → HoldsStage k x x.stage
+  pub in_space : (x : Session) → Among x k.sessions → OfStage HasRectangle x.stage
   -- what each active transaction looked at it guards, what it marked it owns, and what it was told holds on what is live
   pub rectangles : (x : Session) → Among x k.sessions → is_active x ≡ true → HasRectangles x.txn.ops
   pub parts : (x : Session) → Among x k.sessions → is_active x ≡ true → HoldsParts (granules k.tree) (locks_of k.sessions k.locks) x.txn.number x.txn.ops

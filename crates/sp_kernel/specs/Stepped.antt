@@ -38,7 +38,7 @@ use Rattle.sp_kernel.specs.declared.session.Stage.TheVariants.{Idle, Started, Na
 use Rattle.sp_kernel.specs.State.{Kernel, entries_in, is_active, session_at, sessions_without}
 use Rattle.sp_kernel.specs.Refusals.{first_unused, turned_away}
 use Rattle.sp_kernel.specs.Moves.{with_stage, begun, rolled_back, Requests, committed, finished, marked, inserted, cleaned, put_off, placed_all, taken_off}
-use Rattle.sp_kernel.specs.Plans.{object_of, is_adding, Inserts, HasNeeds, left_to_ask, AreGiftsOf}
+use Rattle.sp_kernel.specs.Plans.{object_of, HasRectangle, is_adding, Inserts, HasNeeds, left_to_ask, AreGiftsOf}
 
 -- the session of that number has this transaction
 abbrev pub IsAt : Kernel → ℕ → Session → Type 0
@@ -116,10 +116,10 @@ pub record Removes (IsRemoved : Table → ℕ → Table → Type 0) (k : Kernel)
   pub needs : AreNeedsOf (ShortWant (granules k.tree) (granules after) None) Short short
   pub in_numbers : (first_unused ≤ k.tree.next) → (k.tree.next < after.next) → ⊥
 
--- what an event does that is not turned away. `IsRemoved` is the removal of an entry from a tree
+-- what an event does that is not turned away. `IsRemoved` is the removal of an entry from a tree. The rectangle of the operation that a start brings is one in space, as every rectangle of the code is
 pub data Does (IsRemoved : Table → ℕ → Table → Type 0) (k : Kernel) : Event → Answer → Kernel → Type 0 where
   Begins : (s : ℕ) → Does IsRemoved k (Begin s) (Began k.next_txn (length k.commits)) (begun s k)
-  Starts : (s : ℕ) (x : Session) (op : Op) → IsAt k s x → Does IsRemoved k (Start s op) IsStarted (with_stage s (Started op) k)
+  Starts : (s : ℕ) (x : Session) (op : Op) → IsAt k s x → HasRectangle op → Does IsRemoved k (Start s op) IsStarted (with_stage s (Started op) k)
   NamesNothing : (s : ℕ) (x : Session) (op : Op) → IsAt k s x → x.stage ≡ Started op → object_of op ≡ None → Does IsRemoved k (Name s) Granted (with_stage s (Named op) k)
   Names : (s : ℕ) (x : Session) (op : Op) (name : OnName) (mode : Mode) (answer : Answer) (after : Kernel) → IsAt k s x → x.stage ≡ Started op → object_of op ≡ Some (name, mode)
       → Requests k x name mode ToTheEnd (Named op) (NameWait op) answer after → Does IsRemoved k (Name s) answer after

@@ -9,5 +9,5 @@ pub use ending::{
     commits_keep_sound, ends_change_marked_entries, flushes_keep_sound, removals_keep_sound,
     rollbacks_keep_sound,
 };
-pub use requests::{requests_keep_sound, stages_keep_sound};
+pub use requests::{begins_keep_sound, plans_keep_sound, requests_keep_sound};
 pub use session::{Session, Stage};

@@ -1,16 +1,15 @@
 -- An insertion keeps what stood in the tree, and moves entries to new leaves alone.
 use Rattle.std.proofs.Common.{◌≡◌, ◌≢◌, ◌⊎◌, ℕ, zero, suc, ◌<◌, ◌≤◌, Bool, true, false, ◌||◌, List, [], ◌∷◌, ◌++◌, map, nat_eq, Option, None, refl, sym, ap, ◌∙◌, subst, inl, inr, true≢false, arith}
-use Rattle.std.specs.List.{flat_map, list_any}
+use Rattle.std.specs.List.{Contains, flat_map, list_any}
 use Rattle.std.specs.Option.{MatchOption}
 use Rattle.sp_rect.specs.Plane.{Rectangle, whole}
 use Rattle.sp_node.specs.declared.node.Entry.{Entry}
 use Rattle.sp_node.specs.declared.node.Shape.{Shape}
-use Rattle.sp_node.specs.declared.plan.Plan.{Plan}
 use Rattle.sp_node.specs.Among.{Among}
 use Rattle.sp_node.specs.Index.{leaf_with}
 use Rattle.sp_node.specs.Look.{look}
 use Rattle.sp_node.specs.Nested.{Body, places, entries}
-use Rattle.sp_node.specs.Plan.{planned, IsMadeOf}
+use Rattle.sp_node.specs.Plan.{SameEntries}
 use Rattle.sp_node.specs.Standing.{HasNoEntry, IsLeafOf}
 use Rattle.sp_node.specs.Table.{Table, IsShape, IsValid, level_of, body_at, entries_of}
 use Rattle.sp_node.proofs.Among.{among_right, among_flat_map, from_flat_map}
@@ -22,12 +21,12 @@ use Rattle.sp_grow.specs.Grown.{IsGrown}
 use Rattle.sp_grow.specs.Moves.{InLeaf, InLeafOf, Leaves}
 use Rattle.sp_grow.proofs.Moves.{InOutcome, settles_above, settles_leaf, in_with, in_tree, old_entry}
 use Rattle.sp_grow.proofs.NewEntry.{new_entry}
-use Rattle.sp_protection.specs.Reshape.{HasNumber, StillHas, EntersOrGives}
+use Rattle.sp_protection.specs.Reshape.{HasNumber, StillHas, SameStandings, EntersOrGives}
 use Rattle.sp_protection.specs.Insertion.{Inserts}
 use Rattle.sp_protection.specs.Asking.{IsNew}
 use Rattle.sp_protection.proofs.Choice.{tells}
 use Rattle.sp_protection.proofs.Leaves.{among_map, from_map, standing_entry}
-use Rattle.sp_protection.proofs.Places.{one_leaf, plan_keeps_standings, granule_below_next}
+use Rattle.sp_protection.proofs.Places.{one_leaf, granule_below_next}
 
 -- What stands in a granule is an entry in the leaf of its number, and the other way round.
 leaf_in : (level number : ℕ) (space : Rectangle) (body : Body level) (g : Granule) (x : Standing) → Among g (map granule (places level number space body)) → Among x g.entries → (f : Entry) × InLeaf level number body f g.number × (standing f ≡ x)
@@ -108,6 +107,11 @@ no_entry e (x ∷ xs) none f a s = go a (first (nat_eq e.number x.number) (list_
 has_none : (t : Table) (e : Entry) → IsValid t → leaf_with t.nodes e.number ≡ None → HasNoEntry t e.number
 has_none t e valid none = subst (λ (o : Option ℕ). MatchOption o (HasNoEntry t e.number) (IsLeafOf t e.number)) none (leaf_stands t valid e.number)
 
+contains : {A : Type 0} (x : A) (xs : List A) → Among x xs → Contains xs x
+contains x [] i = absurd i
+contains x (y ∷ ys) (inl e) = (zero, omega arith, sym e)
+contains x (y ∷ ys) (inr i) = let r = contains x ys i in (suc r.0, omega arith, r.2)
+
 pub is_new : (t : Table) (e : Entry) → IsValid t → leaf_with t.nodes e.number ≡ None → IsNew (granules t) (standing e)
 is_new t e valid none g x i a s =
     let f = standing_entry t g x i a in
@@ -116,10 +120,15 @@ is_new t e valid none g x i a s =
 still : (gs : List Granule) (f : Entry) (leaf : ℕ) → StandsAt gs f leaf → StillHas gs f.number
 still gs f leaf at = record { after = at.at; among = at.among; is_leaf = at.is_leaf; entry = standing f; stands = at.has; same = refl }
 
-module _ (t : Table) (plan : Plan) (e : Entry) (valid : IsValid t) (made : IsMadeOf t plan) (grown : IsGrown t e (planned t plan)) (none : leaf_with t.nodes e.number ≡ None) where
-  abbrev t' : Table
-  t' = planned t plan
+-- a number that both trees have names the same entry, so it stands alike in both
+keeps_standings : (t t' : Table) → SameEntries (entries_of t) (entries_of t') → SameStandings (granules t) (granules t')
+keeps_standings t t' same g after x y i a j b number =
+    let e = standing_entry t g x i a in
+    let f = standing_entry t' after y j b in
+    let one : e.0.number ≡ f.0.number = ap (λ (z : Standing). z.number) e.2 ∙ sym number ∙ sym (ap (λ (z : Standing). z.number) f.2) in
+    sym f.2 ∙ ap standing (sym (same e.0 f.0 (contains e.0 (entries_of t) e.1) (contains f.0 (entries_of t') f.1) one)) ∙ e.2
 
+module _ (t t' : Table) (e : Entry) (valid : IsValid t) (valid' : IsValid t') (same : SameEntries (entries_of t) (entries_of t')) (grown : IsGrown t e t') (none : leaf_with t.nodes e.number ≡ None) where
   -- where an entry that stood in a granule stands afterwards
   moved : (g : Granule) (x : Standing) → Among g (granules t) → Among x g.entries → (f : Entry) × ((leaf : ℕ) × StandsAt (granules t') f leaf × ((leaf ≡ g.number) ⊎ (t.next ≤ leaf))) × (standing f ≡ x)
   moved g x i a =
@@ -136,12 +145,12 @@ module _ (t : Table) (plan : Plan) (e : Entry) (valid : IsValid t) (made : IsMad
   keeps g x i a = let m = moved g x i a in subst (λ (y : Standing). StillHas (granules t') y.number) m.2 (still (granules t') m.0 m.1.0 m.1.1)
 
   only : (after : Granule) (x : Standing) → Among after (granules t') → Among x after.entries → x.number ≡ e.number → x ≡ standing e
-  only after x i a s = let at = new_stands in (one_leaf t' after at.1.at x (standing e) made.valid i a at.1.among at.1.has s).1
+  only after x i a s = let at = new_stands in (one_leaf t' after at.1.at x (standing e) valid' i a at.1.among at.1.has s).1
 
   moves_to_new : (g after : Granule) (x : Standing) → Among g (granules t) → Among x g.entries → Among after (granules t') → Among x after.entries → after.number ≢ g.number → HasNumber (granules t) after.number → ⊥
   moves_to_new g after x i a j b other has =
       let m = moved g x i a in
-      let one : after ≡ m.1.1.at = (one_leaf t' after m.1.1.at x (standing m.0) made.valid j b m.1.1.among m.1.1.has (sym (ap (λ (y : Standing). y.number) m.2))).0 in
+      let one : after ≡ m.1.1.at = (one_leaf t' after m.1.1.at x (standing m.0) valid' j b m.1.1.among m.1.1.has (sym (ap (λ (y : Standing). y.number) m.2))).0 in
       go m.1.0 (ap (λ (h : Granule). h.number) one ∙ m.1.1.named) m.1.2
     where
       go : (leaf : ℕ) → after.number ≡ leaf → (leaf ≡ g.number) ⊎ (t.next ≤ leaf) → ⊥
@@ -150,24 +159,24 @@ module _ (t : Table) (plan : Plan) (e : Entry) (valid : IsValid t) (made : IsMad
 
   inserted : Inserts (granules t) (granules t') (standing e)
   inserted = record {
-    same_standings = plan_keeps_standings t plan made;
+    same_standings = keeps_standings t t' same;
     keeps = keeps;
     enters = let at = new_stands in still (granules t') e at.0 at.1;
     only = only;
     moves_to_new = moves_to_new;
   }
 
-pub inserts : (t : Table) (plan : Plan) (e : Entry) → IsValid t → IsMadeOf t plan → IsGrown t e (planned t plan) → leaf_with t.nodes e.number ≡ None → Inserts (granules t) (granules (planned t plan)) (standing e)
-inserts t plan e valid made grown none = inserted t plan e valid made grown none
+pub inserts : (t t' : Table) (e : Entry) → IsValid t → IsValid t' → SameEntries (entries_of t) (entries_of t') → IsGrown t e t' → leaf_with t.nodes e.number ≡ None → Inserts (granules t) (granules t') (standing e)
+inserts t t' e valid valid' same grown none = inserted t t' e valid valid' same grown none
 
-pub enters_or_gives : (t : Table) (plan : Plan) (e : Entry) (leaf : ℕ) → IsValid t → IsGrown t e (planned t plan) → ReachesOf t e.rect leaf → EntersOrGives (granules t) (granules (planned t plan)) leaf (standing e)
-enters_or_gives t plan e leaf valid grown reaches = go (new_entry t e (planned t plan) grown valid.shape leaf reaches)
+pub enters_or_gives : (t t' : Table) (e : Entry) (leaf : ℕ) → IsValid t → IsGrown t e t' → ReachesOf t e.rect leaf → EntersOrGives (granules t) (granules t') leaf (standing e)
+enters_or_gives t t' e leaf valid grown reaches = go (new_entry t e t' grown valid.shape leaf reaches)
   where
-    go : InLeafOf (planned t plan) e leaf ⊎ ((f : Entry) × Leaves t (planned t plan) f leaf) → EntersOrGives (granules t) (granules (planned t plan)) leaf (standing e)
-    go (inl h) = let at = of_leaf (planned t plan) e leaf h in inl (at.at, at.among, at.is_leaf, at.has, at.named)
+    go : InLeafOf t' e leaf ⊎ ((f : Entry) × Leaves t t' f leaf) → EntersOrGives (granules t) (granules t') leaf (standing e)
+    go (inl h) = let at = of_leaf t' e leaf h in inl (at.at, at.among, at.is_leaf, at.has, at.named)
     go (inr h) =
         let was = of_leaf t h.0 leaf h.1.was in
-        let is = of_leaf (planned t plan) h.0 h.1.other h.1.is in
+        let is = of_leaf t' h.0 h.1.other h.1.is in
         let low = granule_below_next t was.at valid was.among in
         inr (was.at, was.among, was.is_leaf, was.named, record { entry = standing h.0; stood = was.has; after = is.at; among = is.among; is_leaf = is.is_leaf; stands = is.has; other = λ s. absurd (apart was.at.number is.at.number h.1.other low is.named h.1.new s) })
       where
