@@ -12,6 +12,7 @@ use Rattle.sp_kernel.specs.State.{Kernel}
 use Rattle.sp_kernel.specs.Refusals.{turned_away}
 use Rattle.sp_kernel.specs.Opening.{IsOpened}
 use Rattle.sp_kernel.specs.Removal.{RemovesOne}
+use Rattle.sp_kernel.specs.Places.{HasPlaces}
 use Rattle.sp_kernel.specs.Unmarked.{IsDeadUntouched}
 use Rattle.sp_kernel.specs.Runs.{Runs}
 use Rattle.sp_kernel.specs.Stepped.{Does, Stepped}
@@ -55,3 +56,6 @@ module _ (IsRemoved : Table → ℕ → Table → Type 0) where
 -- an opened kernel has no sessions
 pub opened_untouched : (shape : Shape) (records : List Record) (k : Kernel) → IsOpened shape records k → IsDeadUntouched k
 opened_untouched shape records k opened x e i = absurd (subst (Among x) opened.sessions i)
+
+pub opened_places : (shape : Shape) (records : List Record) (k : Kernel) → IsOpened shape records k → HasPlaces k
+opened_places shape records k opened x i = absurd (subst (Among x) opened.sessions i)
