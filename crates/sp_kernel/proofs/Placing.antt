@@ -16,7 +16,7 @@ use Rattle.sp_kernel.specs.Plans.{left_to_ask}
 use Rattle.sp_kernel.specs.declared.session.Session.{Session}
 use Rattle.sp_kernel.specs.declared.session.Stage.{Stage}
 use Rattle.sp_kernel.specs.declared.session.Stage.TheVariants.{Idle, Started, NameWait, Named, NeedWait, Planned, Queued, Placed}
-use Rattle.sp_kernel.specs.State.{Kernel, entries_in, is_active, is_active_stage, session_at, sessions_without, with_session, with_change, at_stage, staged}
+use Rattle.sp_kernel.specs.State.{Kernel, entries_in, session_at, sessions_without, with_session, with_change, at_stage, staged}
 use Rattle.sp_kernel.specs.Moves.{Requests, lengthened, placed_commit, placed_found, placed_each}
 use Rattle.sp_kernel.specs.Places.{last_commit, ArePlaced, HasPlaces}
 use Rattle.sp_kernel.specs.Stepped.{Does, IsAt, reply_of, last_place}
