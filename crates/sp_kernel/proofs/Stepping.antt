@@ -1,5 +1,8 @@
 -- Every event keeps a kernel sound, and so does every run.
-use Rattle.std.proofs.Common.{◌≡◌, ℕ, List, None}
+use Rattle.std.proofs.Common.{◌≡◌, ℕ, List, None, subst}
+use Rattle.sp_rect.specs.declared.record.Record.{Record}
+use Rattle.sp_node.specs.declared.node.Shape.{Shape}
+use Rattle.sp_node.specs.Among.{Among}
 use Rattle.sp_node.specs.Table.{Table}
 use Rattle.sp_event.specs.declared.event.Event.{Event}
 use Rattle.sp_event.specs.declared.event.Event.TheVariants.{Begin, Start, Name, Plan, Ask, Apply, Commit as AskCommit, Flush, Rollback, Clean}
@@ -7,10 +10,14 @@ use Rattle.sp_event.specs.declared.answer.Answer.{Answer}
 use Rattle.sp_event.specs.declared.step.Step.{Step}
 use Rattle.sp_kernel.specs.State.{Kernel}
 use Rattle.sp_kernel.specs.Refusals.{turned_away}
+use Rattle.sp_kernel.specs.Opening.{IsOpened}
 use Rattle.sp_kernel.specs.Removal.{RemovesOne}
+use Rattle.sp_kernel.specs.Places.{HasPlaces}
+use Rattle.sp_kernel.specs.Unmarked.{IsDeadUntouched}
 use Rattle.sp_kernel.specs.Runs.{Runs}
 use Rattle.sp_kernel.specs.Stepped.{Does, Stepped}
 use Rattle.sp_kernel.specs.Soundness.{Sound}
+use Rattle.sp_kernel.proofs.Dying.{does_untouched}
 use Rattle.sp_kernel.proofs.Ends.{commit_keeps, rollback_keeps, flush_keeps, clean_keeps}
 use Rattle.sp_kernel.proofs.Starts.{begin_keeps, start_keeps, name_keeps, plan_keeps, ask_keeps}
 
@@ -36,3 +43,19 @@ module _ (IsRemoved : Table → ℕ → Table → Type 0) where
     pub runs_keep : (k : Kernel) (steps : List Step) (last : Kernel) → Sound k → Runs IsRemoved k steps last → Sound last
     runs_keep k _ _ sound Runs.Stays = sound
     runs_keep k _ last sound (Runs.Goes between steps step runs stepped) = stepped_keeps between step.event step.answer last (runs_keep k steps between sound runs) stepped
+
+    -- nothing of an active transaction comes onto a dead entry
+    pub stepped_untouched : (k : Kernel) (event : Event) (answer : Answer) (after : Kernel) → Sound k → IsDeadUntouched k → Stepped IsRemoved k event answer after → IsDeadUntouched after
+    stepped_untouched k event _ _ sound dead (Stepped.IsTurnedAway answer away) = dead
+    stepped_untouched k event _ _ sound dead (Stepped.IsDone answer after free does) = does_untouched IsRemoved removes k event answer after sound dead free does
+
+    pub runs_untouched : (k : Kernel) (steps : List Step) (last : Kernel) → Sound k → IsDeadUntouched k → Runs IsRemoved k steps last → IsDeadUntouched last
+    runs_untouched k _ _ sound dead Runs.Stays = dead
+    runs_untouched k _ last sound dead (Runs.Goes between steps step runs stepped) = stepped_untouched between step.event step.answer last (runs_keep k steps between sound runs) (runs_untouched k steps between sound dead runs) stepped
+
+-- an opened kernel has no sessions
+pub opened_untouched : (shape : Shape) (records : List Record) (k : Kernel) → IsOpened shape records k → IsDeadUntouched k
+opened_untouched shape records k opened x e i = absurd (subst (Among x) opened.sessions i)
+
+pub opened_places : (shape : Shape) (records : List Record) (k : Kernel) → IsOpened shape records k → HasPlaces k
+opened_places shape records k opened x i = absurd (subst (Among x) opened.sessions i)
