@@ -30,3 +30,4 @@ pub mod Finishing
 pub mod Operating
 pub mod Ready
 pub mod Marking
+pub mod Growing
