@@ -31,3 +31,4 @@ pub mod Operating
 pub mod Ready
 pub mod Marking
 pub mod Growing
+pub mod Giving
