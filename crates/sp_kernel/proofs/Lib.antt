@@ -32,3 +32,4 @@ pub mod Ready
 pub mod Marking
 pub mod Growing
 pub mod Giving
+pub mod Adding
