@@ -33,3 +33,4 @@ pub mod Marking
 pub mod Growing
 pub mod Giving
 pub mod Adding
+pub mod Applies
