@@ -31,3 +31,7 @@ pub mod Operating
 pub mod Ready
 pub mod Marking
 pub mod Placing
+pub mod Growing
+pub mod Giving
+pub mod Adding
+pub mod Applies
