@@ -17,20 +17,21 @@ use Rattle.sp_kernel.specs.Unmarked.{IsDeadUntouched}
 use Rattle.sp_kernel.specs.Runs.{Runs}
 use Rattle.sp_kernel.specs.Stepped.{Does, Stepped}
 use Rattle.sp_kernel.specs.Soundness.{Sound}
+use Rattle.sp_kernel.proofs.Applies.{apply_keeps}
 use Rattle.sp_kernel.proofs.Dying.{does_untouched}
 use Rattle.sp_kernel.proofs.Ends.{commit_keeps, rollback_keeps, flush_keeps, clean_keeps}
 use Rattle.sp_kernel.proofs.Starts.{begin_keeps, start_keeps, name_keeps, plan_keeps, ask_keeps}
 
 module _ (IsRemoved : Table → ℕ → Table → Type 0) where
-  -- an event that does what it does keeps a kernel sound, where an operation that is applied does
-  module _ (removes : RemovesOne IsRemoved) (apply_keeps : (k : Kernel) (s : ℕ) (answer : Answer) (after : Kernel) → Sound k → turned_away k (Apply s) ≡ None → Does IsRemoved k (Apply s) answer after → Sound after) where
+  -- an event that does what it does keeps a kernel sound
+  module _ (removes : RemovesOne IsRemoved) where
     pub does_keeps : (k : Kernel) (event : Event) (answer : Answer) (after : Kernel) → Sound k → turned_away k event ≡ None → Does IsRemoved k event answer after → Sound after
     does_keeps k (Begin s) = begin_keeps IsRemoved k s
     does_keeps k (Start s op) = start_keeps IsRemoved k s op
     does_keeps k (Name s) = name_keeps IsRemoved k s
     does_keeps k (Plan s) = plan_keeps IsRemoved k s
     does_keeps k (Ask s) = λ answer after sound free does. ask_keeps IsRemoved k s answer after sound does
-    does_keeps k (Apply s) = apply_keeps k s
+    does_keeps k (Apply s) = λ answer after sound free does. apply_keeps IsRemoved k s answer after sound does
     does_keeps k (AskCommit s) = λ answer after sound free does. commit_keeps IsRemoved k s answer after sound does
     does_keeps k (Rollback s) = rollback_keeps IsRemoved k s
     does_keeps k Flush = λ answer after sound free does. flush_keeps IsRemoved k answer after sound does
