@@ -19,11 +19,12 @@ use Rattle.sp_split.specs.Split.{Splits}
 use Rattle.sp_split.proofs.Unique.{one_split}
 use Rattle.sp_grow.specs.Below.{numbers}
 use Rattle.sp_grow.specs.Chosen.{IsBetter, IsAsGood, IsChosen}
-use Rattle.sp_grow.specs.Insertion.{Outcome, one, two, with_outcome, IsNode, Settles, Grows}
+use Rattle.sp_grow.specs.Insertion.{Outcome, one, two, with_outcome, IsNode, Settles, Grows, here, below}
 use Rattle.sp_grow.specs.Members.{pick}
 use Rattle.sp_grow.specs.Grown.{IsGrown, IsRoot}
 use Rattle.sp_grow.proofs.Numbers.{numbers_places, numbers_left, all_back}
-use Rattle.sp_grow.proofs.Counting.{Counted, new_numbers, entries_left, grows_numbers, grows_entries}
+use Rattle.sp_grow.specs.Reached.{new_numbers}
+use Rattle.sp_grow.proofs.Counting.{Counted, entries_left, grows_numbers, grows_entries}
 use Rattle.sp_granule.specs.Granules.{Granule, granule, granules}
 use Rattle.sp_protection.specs.Reshape.{HasNumber}
 use Rattle.sp_protection.proofs.Leaves.{among_map, from_map}
@@ -121,18 +122,18 @@ module _ (shape : Shape) (v : IsShape shape) where
       enough : (n m min max : ℕ) → n ≡ m → 2 * min ≤ max → max < m → 2 * min ≤ n
       enough n m min max e a b = omega arith
 
-  one_grows : (level number next : ℕ) (body : Body level) (e : Entry) (o : Outcome (Body level)) (n : ℕ) (o' : Outcome (Body level)) (n' : ℕ) → Grows shape level number next body e o n → Grows shape level number next body e o' n' → (o ≡ o') × (n ≡ n')
-  one_grows zero number next es e o n o' n' g h = one_settles zero number next (es ++ e ∷ []) o n o' n' g h
-  one_grows (suc level) number next branches e o n o' n' g h =
-      let c = one_way e.rect g.0 g.1 g.2 h.0 h.1 h.2 (sym g.5 ∙ h.5)
-          (all_unmap (λ a. IsBetter e.rect g.1.rect a) (rect_of (suc level)) g.0 g.6.0) (all_unmap (λ a. IsAsGood e.rect g.1.rect a) (rect_of (suc level)) g.2 g.6.1)
-          (all_unmap (λ a. IsBetter e.rect h.1.rect a) (rect_of (suc level)) h.0 h.6.0) (all_unmap (λ a. IsAsGood e.rect h.1.rect a) (rect_of (suc level)) h.2 h.6.1) in
-      let below = one_grows level g.1.number next g.1.body e g.3 g.4 h.3 h.4 g.7 (subst (λ (b : Branch (Body level)). Grows shape level b.number next b.body e h.3 h.4) (sym c.1) h.7) in
-      one_settles (suc level) number g.4 (with_outcome g.0 g.3 g.2) o n o' n' g.8
-      (subst (λ (m : ℕ). Settles shape (suc level) number m (with_outcome g.0 g.3 g.2) o' n') (sym below.1)
-      (subst (λ (f : List (Branch (Body level))). Settles shape (suc level) number h.4 (with_outcome f g.3 g.2) o' n') (sym c.0)
-      (subst (λ (u : Outcome (Body level)). Settles shape (suc level) number h.4 (with_outcome h.0 u g.2) o' n') (sym below.0)
-      (subst (λ (b : List (Branch (Body level))). Settles shape (suc level) number h.4 (with_outcome h.0 h.3 b) o' n') (sym c.2) h.8))))
+  one_grows : (e : Entry) (level number next : ℕ) (body : Body level) (o : Outcome (Body level)) (n : ℕ) (o' : Outcome (Body level)) (n' : ℕ) → Grows shape 0 e level number next body o n → Grows shape 0 e level number next body o' n' → (o ≡ o') × (n ≡ n')
+  one_grows e level number next es o n o' n' (here g) (here h) = one_settles zero number next (es ++ e ∷ []) o n o' n' g h
+  one_grows e (suc level) number next branches o n o' n' (below front b back under mid split chosen grows settles) (below front' b' back' under' mid' split' chosen' grows' settles') =
+      let c = one_way e.rect front b back front' b' back' (sym split ∙ split')
+          (all_unmap (λ a. IsBetter e.rect b.rect a) (rect_of (suc level)) front chosen.0) (all_unmap (λ a. IsAsGood e.rect b.rect a) (rect_of (suc level)) back chosen.1)
+          (all_unmap (λ a. IsBetter e.rect b'.rect a) (rect_of (suc level)) front' chosen'.0) (all_unmap (λ a. IsAsGood e.rect b'.rect a) (rect_of (suc level)) back' chosen'.1) in
+      let lower = one_grows e level b.number next b.body under mid under' mid' grows (subst (λ (x : Branch (Body level)). Grows shape 0 e level x.number next x.body under' mid') (sym c.1) grows') in
+      one_settles (suc level) number mid (with_outcome front under back) o n o' n' settles
+      (subst (λ (m : ℕ). Settles shape (suc level) number m (with_outcome front under back) o' n') (sym lower.1)
+      (subst (λ (f : List (Branch (Body level))). Settles shape (suc level) number mid' (with_outcome f under back) o' n') (sym c.0)
+      (subst (λ (u : Outcome (Body level)). Settles shape (suc level) number mid' (with_outcome front' u back) o' n') (sym lower.0)
+      (subst (λ (x : List (Branch (Body level))). Settles shape (suc level) number mid' (with_outcome front' under' x) o' n') (sym c.2) settles'))))
 
 -- the nodes that an outcome makes a tree of
 abbrev places_left : (level : ℕ) → Outcome (Body level) → ℕ → List Place
@@ -151,7 +152,7 @@ root_places level (two a b) next t h =
 pub grown_granules : (t : Table) (e : Entry) (t' t'' : Table) → IsShape t.shape → IsGrown t e t' → IsGrown t e t'' → granules t' ≡ granules t''
 unfolding granules
 grown_granules t e t' t'' v g h =
-    let s = one_grows t.shape v (level_of t) t.root t.next (body_at (look t.nodes) (level_of t) t.root) e g.outcome g.next h.outcome h.next g.grows h.grows in
+    let s = one_grows t.shape v e (level_of t) t.root t.next (body_at (look t.nodes) (level_of t) t.root) g.outcome g.next h.outcome h.next g.grows h.grows in
     ap (map granule)
     (root_places (level_of t) g.outcome g.next t' g.root
     ∙ ap (λ (o : Outcome (Body (level_of t))). places_left (level_of t) o g.next) s.0
@@ -167,7 +168,9 @@ root_sum w level (two a b) next t h =
 
 pub grown_sum : (t : Table) (e : Entry) (t' : Table) → IsShape t.shape → IsGrown t e t' → (w : Entry → ℕ) → sum_by w (entries_of t') ≡ sum_by w (entries_of t) + w e
 grown_sum t e t' v g w =
-    root_sum w (level_of t) g.outcome g.next t' g.root ∙ grows_entries t.shape v w (level_of t) t.root t.next (body_at (look t.nodes) (level_of t) t.root) e g.outcome g.next g.grows
+    let left = root_sum w (level_of t) g.outcome g.next t' g.root in
+    let more = grows_entries t.shape v w 0 e (level_of t) t.root t.next (body_at (look t.nodes) (level_of t) t.root) g.outcome g.next g.grows in
+    omega (arith, left, more, sum_by-cons w e [])
 
 -- an entry of the number of each that stood there, and of the new one, stands in the tree
 pub grown_has : (t : Table) (e : Entry) (t' : Table) → IsShape t.shape → IsGrown t e t' → (f : Entry) → (f ≡ e) ⊎ Among f (entries_of t) → (g : Entry) × Among g (entries_of t') × (g.number ≡ f.number)
@@ -206,7 +209,7 @@ grown_numbers t e t' v g h i =
     go p.0 (ap (λ (z : Granule). z.number) (sym p.2)) (among_left_numbers (level_of t) g.outcome g.next p.0.number (subst (λ (ps : List Place). Among p.0.number (map (λ (z : Place). z.number) ps)) (root_places (level_of t) g.outcome g.next t' g.root) (among_map (λ (z : Place). z.number) p.0 (places_of t') p.1)))
   where
     counted : Counted t.next g.next (numbers (level_of t) t.root (body_at (look t.nodes) (level_of t) t.root)) (numbers_left (level_of t) g.outcome)
-    counted = grows_numbers t.shape v (level_of t) t.root t.next (body_at (look t.nodes) (level_of t) t.root) e g.outcome g.next g.grows
+    counted = subst (λ (ns : List ℕ). Counted t.next g.next ns (numbers_left (level_of t) g.outcome)) (append-nil (numbers (level_of t) t.root (body_at (look t.nodes) (level_of t) t.root))) (grows_numbers t.shape v 0 e (level_of t) t.root t.next (body_at (look t.nodes) (level_of t) t.root) g.outcome g.next g.grows)
 
     named : (p : Place) → (granule p).number ≡ p.number
     named p = at p.level p.body
@@ -240,11 +243,17 @@ grown_numbers t e t' v g h i =
                 inl (subst (HasNumber (map granule (places_of t))) (it_is p.number r.0 r.2 ∙ sym at) (old r.0 r.1))
 
 -- few numbers are new: one a level and one for the root
-grows_next : (shape : Shape) (level number next : ℕ) (body : Body level) (e : Entry) (o : Outcome (Body level)) (n : ℕ) → Grows shape level number next body e o n → (next ≤ n) × (n ≤ next + level + 1)
-grows_next shape zero number next es e (one a) n g = let h = g.2 in (omega (arith, h), omega (arith, h))
-grows_next shape zero number next es e (two a b) n g = let h = g.6 in (omega (arith, h), omega (arith, h))
-grows_next shape (suc level) number next branches e (one a) n g = let b = grows_next shape level g.1.number next g.1.body e g.3 g.4 g.7 in let c = b.0 in let d = b.1 in let h = g.8.2 in (omega (arith, c, d, h), omega (arith, c, d, h))
-grows_next shape (suc level) number next branches e (two a z) n g = let b = grows_next shape level g.1.number next g.1.body e g.3 g.4 g.7 in let c = b.0 in let d = b.1 in let h = g.8.6 in (omega (arith, c, d, h), omega (arith, c, d, h))
+grows_next : (shape : Shape) (e : Entry) (level number next : ℕ) (body : Body level) (o : Outcome (Body level)) (n : ℕ) → Grows shape 0 e level number next body o n → (next ≤ n) × (n ≤ next + level + 1)
+grows_next shape e level number next es (one a) n (here g) = let h = g.2 in (omega (arith, h), omega (arith, h))
+grows_next shape e level number next es (two a b) n (here g) = let h = g.6 in (omega (arith, h), omega (arith, h))
+grows_next shape e (suc level) number next branches (one a) n (below front b back under mid split chosen grows settles) =
+    let r = grows_next shape e level b.number next b.body under mid grows in
+    let c = r.0 in let d = r.1 in let h = settles.2 in
+    (omega (arith, c, d, h), omega (arith, c, d, h))
+grows_next shape e (suc level) number next branches (two a z) n (below front b back under mid split chosen grows settles) =
+    let r = grows_next shape e level b.number next b.body under mid grows in
+    let c = r.0 in let d = r.1 in let h = settles.6 in
+    (omega (arith, c, d, h), omega (arith, c, d, h))
 
 root_next : (level : ℕ) (o : Outcome (Body level)) (next : ℕ) (t : Table) → IsRoot level o next t → (next ≤ t.next) × (t.next ≤ next + 1)
 root_next level (one a) next t h = let e = h.1 in (omega (arith, e), omega (arith, e))
@@ -252,7 +261,7 @@ root_next level (two a b) next t h = let e = h.1 in (omega (arith, e), omega (ar
 
 pub grown_next : (t : Table) (e : Entry) (t' : Table) → IsGrown t e t' → (t.next ≤ t'.next) × (t'.next ≤ t.next + level_of t + 2)
 grown_next t e t' g =
-    let a = grows_next t.shape (level_of t) t.root t.next (body_at (look t.nodes) (level_of t) t.root) e g.outcome g.next g.grows in
+    let a = grows_next t.shape e (level_of t) t.root t.next (body_at (look t.nodes) (level_of t) t.root) g.outcome g.next g.grows in
     let b = root_next (level_of t) g.outcome g.next t' g.root in
     let c = a.0 in let d = a.1 in let x = b.0 in let y = b.1 in
     (omega (arith, c, x), omega (arith, d, y))
