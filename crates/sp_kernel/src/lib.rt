@@ -2,6 +2,7 @@
 #![tactic(auto)]
 
 mod ending;
+mod events;
 mod operations;
 mod requests;
 mod session;
@@ -10,6 +11,7 @@ pub use ending::{
     commits_keep_sound, ends_change_marked_entries, flushes_keep_sound,
     placed_sessions_are_told_their_places, removals_keep_sound, rollbacks_keep_sound,
 };
+pub use events::{every_event_keeps_sound, every_run_is_serial};
 pub use operations::operations_keep_sound;
 pub use requests::{begins_keep_sound, plans_keep_sound, requests_keep_sound};
 pub use session::{Session, Stage};
