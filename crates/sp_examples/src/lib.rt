@@ -2,6 +2,10 @@
 #![tactic(auto)]
 
 #[cfg(test)]
+mod commit_locks;
+#[cfg(test)]
+mod effects;
+#[cfg(test)]
 mod granules;
 #[cfg(test)]
 mod trees;

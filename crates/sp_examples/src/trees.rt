@@ -1,6 +1,9 @@
 // Trees of a few records, by insertion.
+ghost use Rattle.std.specs.Prelude.{IfOk};
+ghost use Rattle.sp_node.specs.Plan.{IsMadeOf};
+
 use sp_grow::grow;
-use sp_node::{Draft, Ended, Entry, Made, Marks, Shape, Tree};
+use sp_node::{Draft, Ended, Entry, Made, Marks, Plan, Shape, Tree};
 use sp_rect::{Rect, Value};
 use std::alloc::Global;
 use std::test::Fail;
@@ -27,7 +30,10 @@ pub fn tree_of(alloc: Global, rects: &[(i64, i64, i64, i64)]) -> Result<Tree, Fa
     Ok(tree)
 }
 
-fn insert(alloc: Global, tree: &mut Tree, number: u64, rect: Rect) -> Result<(), Fail> {
+/// The insertion of a rectangle with a new number.
+pub fn plan_of(alloc: Global, tree: &Tree, number: u64, rect: Rect) -> Result<Plan, Fail>
+    ensures { IfOk result (λ plan. IsMadeOf tree.now.table plan) }
+{
     if tree.leaf_of(number).is_some() || tree.next() >= MOST_NODES {
         return Err(Fail::from("no number"));
     }
@@ -46,11 +52,21 @@ fn insert(alloc: Global, tree: &mut Tree, number: u64, rect: Rect) -> Result<(),
         },
     };
     match grow(alloc, tree, entry) {
-        Ok(plan) => {
-            tree.make_room(&plan)?;
-            tree.adopt(plan);
-            Ok(())
-        }
+        Ok(plan) => Ok(plan),
         Err(_) => Err(Fail::from("no memory")),
     }
+}
+
+fn insert(alloc: Global, tree: &mut Tree, number: u64, rect: Rect) -> Result<(), Fail> {
+    let plan = plan_of(alloc, tree, number, rect)?;
+    adopt(tree, plan)
+}
+
+/// Puts the plan's nodes in place of the tree's.
+pub fn adopt(tree: &mut Tree, plan: Plan) -> Result<(), Fail>
+    requires { IsMadeOf tree.old.table plan }
+{
+    tree.make_room(&plan)?;
+    tree.adopt(plan);
+    Ok(())
 }
