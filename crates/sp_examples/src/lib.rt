@@ -2,7 +2,11 @@
 #![tactic(auto)]
 
 #[cfg(test)]
+mod commit_locks;
+#[cfg(test)]
 mod commits;
+#[cfg(test)]
+mod effects;
 #[cfg(test)]
 mod granules;
 #[cfg(test)]
