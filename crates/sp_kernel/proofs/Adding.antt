@@ -75,8 +75,6 @@ use Rattle.sp_kernel.specs.Stepped.{records_in, kept_records, most_records_told,
 use Rattle.sp_kernel.specs.Soundness.{MayHave, RowsOwned, HasOwner, NamesUsed, SharesLatch, AwaitsObject, HoldsStage, NumbersUsed, DeadListed, is_met, is_queued, Sound}
 use Rattle.sp_kernel.proofs.Sessions.{number-same, number-differ, among-kept, of_kept}
 use Rattle.sp_kernel.proofs.Holding.{any-among, first_of_both, second_of_both, IsLock, StayHeld, HoldsStill, of_met, given-stays, met-held, released-others, released-short, locks-still, row-mode, of_locks, parts-still, part-still, marks_owned-still}
-use Rattle.sp_kernel.proofs.Counting.{length-sum}
-use Rattle.sp_kernel.proofs.Dead.{distinct-cons}
 use Rattle.sp_kernel.proofs.Released.{released-owned, released-names, released-awaits_object}
 use Rattle.sp_kernel.proofs.Requesting.{met-then}
 use Rattle.sp_kernel.proofs.Awake.{released-long}
@@ -84,9 +82,8 @@ use Rattle.sp_kernel.proofs.Planned.{stage_from}
 use Rattle.sp_kernel.proofs.Restaging.{there-changed}
 use Rattle.sp_kernel.proofs.Staging.{told}
 use Rattle.sp_kernel.proofs.Endings.{numbers-other, run_all}
-use Rattle.sp_kernel.proofs.Entering.{grown_only}
 use Rattle.sp_kernel.proofs.Finishing.{planned-awake}
-use Rattle.sp_kernel.proofs.Growing.{grown_granules, grown_sum, grown_has, grown_numbers, grown_next, few_levels}
+use Rattle.sp_kernel.proofs.Growing.{grown_granules, grown_numbers, grown_next, few_levels, entered_only, entered_new, entered_old, entered_members, entered_length}
 use Rattle.sp_kernel.proofs.Giving.{all_locks, met_mode, among_all_locks, all_compatible, OnNew, gift_new, gifts_free, gift_locks, gifts_new, of_given, given-awaits_object}
 use Rattle.sp_kernel.proofs.Operating.{done_with, done-keeps, kept-idle, with_done, FitsDone, done_with-sound}
 use Rattle.sp_kernel.proofs.Ready.{part_held, owned_done, ready, ready_space, ready_object, ready_commit}
@@ -173,24 +170,20 @@ module _ (k : Kernel) (x : Session) (r : Record) (after : Table) (chosen : ℕ) 
   active = told (λ (z : Stage). is_active_stage z ≡ true) x at refl
 
   -- the entries
-  only : (f : Entry) → Among f (entries_of after) → (f ≡ e) ⊎ Among f es
-  only = grown_only k.tree e after grown
-
   unused : (f : Entry) → Among f es → f.number ≢ k.next_entry
   unused f i same = low f.number k.next_entry (sound.entry_numbers f i) same
     where
       low : (m n : ℕ) → m < n → m ≡ n → ⊥
       low m n a b = omega arith
 
+  only : (f : Entry) → Among f (entries_of after) → (f ≡ e) ⊎ Among f es
+  only = entered_only k.tree e after sound.valid inserts.inserted unused
+
   new_in : Among e (entries_of after)
-  new_in = let g = grown_has k.tree e after sound.valid.shape grown e (inl refl) in go g.0 g.1 g.2 (only g.0 g.1)
-    where
-      go : (g : Entry) → Among g (entries_of after) → g.number ≡ k.next_entry → (g ≡ e) ⊎ Among g es → Among e (entries_of after)
-      go g i n (inl same) = subst (λ (z : Entry). Among z (entries_of after)) same i
-      go g i n (inr old) = absurd (unused g old n)
+  new_in = entered_new k.tree e after sound.valid inserts.inserted unused
 
   old_in : (f : Entry) → Among f es → Among f (entries_of after)
-  old_in f i = let g = grown_has k.tree e after sound.valid.shape grown f (inr i) in subst (λ (z : Entry). Among z (entries_of after)) (sym (inserts.inserted.same f g.0 i g.1 (sym g.2))) g.1
+  old_in = entered_old k.tree e after sound.valid inserts.inserted unused
 
   nothing_found : within (Id r.id) (view es t) ≡ []
   nothing_found = go (within (Id r.id) (view es t)) adding
@@ -203,21 +196,7 @@ module _ (k : Kernel) (x : Session) (r : Record) (after : Table) (chosen : ℕ) 
   as_applied = ap₂ (λ (a b : List Entry). a ++ b) (ap (entered t k.next_entry (Put r)) nothing_found) (put_same t r es)
 
   members : (test : Entry → Bool) → SameMembers test (e ∷ es) (entries_of after)
-  members test = record {
-    distinct = distinct-cons k.next_entry (map (λ f. f.number) es)
-        (λ i. let f = from_map (λ (z : Entry). z.number) k.next_entry es i in unused f.0 f.1 f.2) sound.valid.distinct_entries;
-    distinct_others = inserts.inserted.valid.distinct_entries;
-    there = λ f i h. there f i;
-    back = λ f i h. back f (only f i);
-  }
-    where
-      there : (f : Entry) → Among f (e ∷ es) → Among f (entries_of after)
-      there f (inl same) = subst (λ (z : Entry). Among z (entries_of after)) (sym same) new_in
-      there f (inr i) = old_in f i
-
-      back : (f : Entry) → (f ≡ e) ⊎ Among f es → Among f (e ∷ es)
-      back f (inl same) = inl same
-      back f (inr i) = inr i
+  members = entered_members k.tree e after sound.valid inserts.inserted unused
 
   -- what is live and what each transaction sees is what the operation leaves
   current : live (e ∷ es) ≡ live es
@@ -505,7 +484,7 @@ module _ (k : Kernel) (x : Session) (r : Record) (after : Table) (chosen : ℕ) 
 
   -- the counts
   one_more : length (entries_of after) ≡ length es + 1
-  one_more = let a = length-sum (entries_of after) in let b = length-sum es in let c = grown_sum k.tree e after sound.valid.shape grown (λ z. 1) in omega (arith, a, b, c)
+  one_more = entered_length k.tree e after sound.valid inserts.inserted unused
 
   entries : length (entries_of after) ≤ most_entries
   entries = go (nat_le most_entries (length es)) refl
