@@ -12,6 +12,7 @@ use Rattle.sp_kernel.specs.Removal.{RemovesOne}
 use Rattle.sp_kernel.specs.Runs.{Runs}
 use Rattle.sp_kernel.specs.Stepped.{Does, Stepped}
 use Rattle.sp_kernel.specs.Soundness.{Sound}
+use Rattle.sp_kernel.proofs.Applies.{apply_keeps}
 use Rattle.sp_kernel.proofs.Asking.{names-sound, asks-sound}
 use Rattle.sp_kernel.proofs.Beginning.{begin-sound}
 use Rattle.sp_kernel.proofs.Ends.{commit_keeps, rollback_keeps, flush_keeps, clean_keeps}
@@ -35,15 +36,15 @@ module _ (IsRemoved : Table → ℕ → Table → Type 0) where
   ask_keeps : (k : Kernel) (s : ℕ) (answer : Answer) (after : Kernel) → Sound k → Does IsRemoved k (Ask s) answer after → Sound after
   ask_keeps k s answer after sound (Does.Asks _ x op need left _ _ at planned asks) = asks-sound k s x op need left answer after sound at planned asks
 
-  -- an event that does what it does keeps a kernel sound, where an operation that is applied does
-  module _ (removes : RemovesOne IsRemoved) (apply_keeps : (k : Kernel) (s : ℕ) (answer : Answer) (after : Kernel) → Sound k → turned_away k (Apply s) ≡ None → Does IsRemoved k (Apply s) answer after → Sound after) where
+  -- an event that does what it does keeps a kernel sound
+  module _ (removes : RemovesOne IsRemoved) where
     pub does_keeps : (k : Kernel) (event : Event) (answer : Answer) (after : Kernel) → Sound k → turned_away k event ≡ None → Does IsRemoved k event answer after → Sound after
     does_keeps k (Begin s) = begin_keeps k s
     does_keeps k (Start s op) = start_keeps k s op
     does_keeps k (Name s) = name_keeps k s
     does_keeps k (Plan s) = plan_keeps k s
     does_keeps k (Ask s) = λ answer after sound free does. ask_keeps k s answer after sound does
-    does_keeps k (Apply s) = apply_keeps k s
+    does_keeps k (Apply s) = λ answer after sound free does. apply_keeps IsRemoved k s answer after sound does
     does_keeps k (AskCommit s) = λ answer after sound free does. commit_keeps IsRemoved k s answer after sound does
     does_keeps k (Rollback s) = rollback_keeps IsRemoved k s
     does_keeps k Flush = λ answer after sound free does. flush_keeps IsRemoved k answer after sound does

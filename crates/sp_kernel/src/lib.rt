@@ -2,6 +2,7 @@
 #![tactic(auto)]
 
 mod ending;
+mod opening;
 mod operations;
 mod requests;
 mod session;
@@ -10,6 +11,7 @@ pub use ending::{
     commits_keep_sound, ends_change_marked_entries, flushes_keep_sound, removals_keep_sound,
     rollbacks_keep_sound,
 };
+pub use opening::opened_is_sound;
 pub use operations::operations_keep_sound;
 pub use requests::{requests_keep_sound, stages_keep_sound};
 pub use session::{Session, Stage};
