@@ -1,10 +1,8 @@
 -- A put that adds an entry keeps a kernel sound.
-use Rattle.std.proofs.Common.{◌≡◌, ◌≢◌, ◌⊎◌, ℕ, ◌+◌, ◌<◌, ◌≤◌, ◌^◌, Bool, true, false, cond, not, ◌&&◌, ◌||◌, List, [], ◌∷◌, ◌++◌, map, filter, length, Option, Some, None, nat_eq, nat_lt, refl, sym, ap, ap₂, ◌∙◌, subst, inl, inr, true≢false, arith}
+use Rattle.std.proofs.Common.{◌≡◌, ◌≢◌, ◌⊎◌, ℕ, ◌+◌, ◌<◌, ◌≤◌, ◌^◌, Bool, true, false, not, ◌&&◌, ◌||◌, List, [], ◌∷◌, ◌++◌, map, filter, length, Option, Some, None, nat_eq, nat_lt, refl, sym, ap, ap₂, ◌∙◌, subst, inl, inr, true≢false, arith}
 use Rattle.std.specs.Prelude.{nat_le}
 use Rattle.std.specs.Option.{MatchOption}
-use Rattle.std.specs.List.{IsDistinct, flat_map}
 use Rattle.std.proofs.lemmas.Bool.Decides.{nat_tests}
-use Rattle.std.proofs.lemmas.List.{length-map}
 use Rattle.sp_list.specs.Emptiness.{is_empty}
 use Rattle.sp_rect.specs.Plane.{Rectangle, IsRectangle}
 use Rattle.sp_rect.specs.Serial.{records_after, RepliesAsPlain}
@@ -23,7 +21,7 @@ use Rattle.sp_locks.specs.declared.row.Scope.TheVariants.{ShortLocks}
 use Rattle.sp_locks.specs.declared.row.Duration.TheVariants.{Commit, Short}
 use Rattle.sp_locks.specs.declared.needs.Need.{Need}
 use Rattle.sp_locks.specs.Modes.{covers}
-use Rattle.sp_locks.specs.Rows.{same_name, is_short, waiting_in}
+use Rattle.sp_locks.specs.Rows.{same_name, waiting_in}
 use Rattle.sp_locks.specs.Table.{released, lock_for, given}
 use Rattle.sp_locks.specs.Soundness.{IsSound}
 use Rattle.sp_locks.proofs.Giving.{free-in_turn}
@@ -36,10 +34,9 @@ use Rattle.sp_node.specs.declared.node.Entry.{Entry}
 use Rattle.sp_node.specs.Among.{Among}
 use Rattle.sp_node.specs.Index.{leaf_with}
 use Rattle.sp_node.specs.Marks.{is_marked, is_made_by, is_ended_by, is_draft_of, is_done}
-use Rattle.sp_node.specs.Plan.{SameEntries}
 use Rattle.sp_node.specs.Standing.{HasNoEntry, IsLeafOf}
-use Rattle.sp_node.specs.Table.{Table, IsValid, level_of, places_of, entries_of}
-use Rattle.sp_node.proofs.Among.{among_left, among_right, among_split, among_flat_map, from_flat_map}
+use Rattle.sp_node.specs.Table.{Table, IsValid, places_of, entries_of}
+use Rattle.sp_node.proofs.Among.{among_left, among_right, among_split, among_flat_map}
 use Rattle.sp_node.proofs.Single.{own}
 use Rattle.sp_node.proofs.Standing.{own_all, leaf_stands}
 use Rattle.sp_grow.specs.Chosen.{ReachesOf}
@@ -47,13 +44,13 @@ use Rattle.sp_grow.specs.Grown.{IsGrown}
 use Rattle.sp_grow.proofs.After.{among_from_contains}
 use Rattle.sp_granule.specs.Granules.{Granule, Standing, standing, granules}
 use Rattle.sp_txn.specs.Visible.{is_live, is_visible, record_of, record_for, live, view}
-use Rattle.sp_protection.specs.Holding.{Lock, HoldsMode, AllCompatible, AreBelow}
-use Rattle.sp_protection.specs.Guarding.{Guarded, Owned, MarksOwned}
+use Rattle.sp_protection.specs.Holding.{Lock, HoldsMode}
+use Rattle.sp_protection.specs.Guarding.{MarksOwned}
 use Rattle.sp_protection.specs.Effects.{marked_by, fresh, entered, applied}
 use Rattle.sp_protection.specs.Insertion.{IsMarkedEntry, KeepsAll}
-use Rattle.sp_protection.specs.Asking.{IsAsked, AreAskedOrHeld, HoldsEach, HoldsGifts}
-use Rattle.sp_protection.specs.Needs.{StandsIn, GranuleMeets, PutWant, ShortWant, AreNeedsOf}
-use Rattle.sp_protection.specs.Replays.{Replays, HoldsPart, HoldsParts, LeavesMarks, SameMembers}
+use Rattle.sp_protection.specs.Asking.{IsAsked, AreAskedOrHeld, HoldsEach}
+use Rattle.sp_protection.specs.Needs.{PutWant, ShortWant, AreNeedsOf}
+use Rattle.sp_protection.specs.Replays.{Replays, HoldsPart, LeavesMarks, SameMembers}
 use Rattle.sp_protection.specs.Reshape.{HasNumber}
 use Rattle.sp_protection.proofs.Applying.{applied-live, apply_replays, other_replays}
 use Rattle.sp_protection.proofs.Insertions.{holds-more}
@@ -66,15 +63,15 @@ use Rattle.sp_lawful.specs.Put.{IsPutInto, HoldsPutNeeds, AreGiven}
 use Rattle.sp_lawful.proofs.Putting.{put_keeps_all, put_still_guards}
 use Rattle.sp_kernel.specs.declared.session.Session.{Session}
 use Rattle.sp_kernel.specs.declared.session.Stage.{Stage}
-use Rattle.sp_kernel.specs.declared.session.Stage.TheVariants.{Idle, Planned}
-use Rattle.sp_kernel.specs.State.{Kernel, entries_in, is_active_stage, is_active, area_of, searched, with_change, locks_of}
-use Rattle.sp_kernel.specs.Refusals.{is_search, under_way, first_unused}
+use Rattle.sp_kernel.specs.declared.session.Stage.TheVariants.{Planned}
+use Rattle.sp_kernel.specs.State.{Kernel, entries_in, is_active_stage, is_active, area_of, with_change, locks_of}
+use Rattle.sp_kernel.specs.Refusals.{under_way, first_unused}
 use Rattle.sp_kernel.specs.Moves.{inserted}
-use Rattle.sp_kernel.specs.Plans.{is_adding, Inserts, HasNeeds, Stays, Adds, GiftWant, AreGiftsOf, is_held, is_covered}
+use Rattle.sp_kernel.specs.Plans.{is_adding, Inserts, HasNeeds, Stays, Adds, GiftWant, AreGiftsOf, is_covered}
 use Rattle.sp_kernel.specs.Stepped.{records_in, kept_records, most_records_told, reply_of, PassesEntries, PassesNumbers, most_entries}
-use Rattle.sp_kernel.specs.Soundness.{MayHave, RowsOwned, HasOwner, NamesUsed, SharesLatch, AwaitsObject, HoldsStage, NumbersUsed, DeadListed, is_met, is_queued, Sound}
+use Rattle.sp_kernel.specs.Soundness.{MayHave, RowsOwned, HasOwner, NamesUsed, SharesLatch, HoldsStage, NumbersUsed, DeadListed, is_met, is_queued, Sound}
 use Rattle.sp_kernel.proofs.Sessions.{number-same, number-differ, among-kept, of_kept}
-use Rattle.sp_kernel.proofs.Holding.{any-among, first_of_both, second_of_both, IsLock, StayHeld, HoldsStill, of_met, given-stays, met-held, released-others, released-short, locks-still, row-mode, of_locks, parts-still, part-still, marks_owned-still}
+use Rattle.sp_kernel.proofs.Holding.{any-among, first_of_both, second_of_both, StayHeld, HoldsStill, of_met, given-stays, met-held, released-others, released-short, locks-still, row-mode, of_locks, parts-still, part-still, marks_owned-still}
 use Rattle.sp_kernel.proofs.Released.{released-owned, released-names, released-awaits_object}
 use Rattle.sp_kernel.proofs.Requesting.{met-then}
 use Rattle.sp_kernel.proofs.Awake.{released-long}

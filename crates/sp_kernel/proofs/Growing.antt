@@ -1,7 +1,6 @@
 -- An insertion: it leaves one list of granules, the entries with the new one, and few new numbers.
 use Rattle.std.proofs.Common.{◌≡◌, ◌≢◌, ◌⊎◌, ℕ, zero, suc, ◌+◌, ◌*◌, ◌<◌, ◌≤◌, Bool, true, false, cond, nat_eq, List, [], ◌∷◌, ◌++◌, map, length, Some, refl, sym, ap, ◌∙◌, subst, inl, inr, arith}
 use Rattle.std.specs.List.{flat_map, sum_by, AllByRecursion}
-use Rattle.std.proofs.lemmas.Bool.Decides.{nat_tests}
 use Rattle.std.proofs.lemmas.Int.{ints}
 use Rattle.std.proofs.lemmas.List.{append-nil, length-append, length-map}
 use Rattle.std.proofs.lemmas.List.Sums.{sum_by-append, sum_by-cons}
@@ -15,10 +14,9 @@ use Rattle.sp_node.specs.Nested.{Body, Branch, Place, places, entries, rects, re
 use Rattle.sp_node.specs.Table.{Table, IsShape, IsValid, body_at, level_of, places_of, entries_of}
 use Rattle.sp_node.proofs.Among.{among_split}
 use Rattle.sp_node.proofs.Lists.{all_unmap}
-use Rattle.sp_split.specs.Split.{Splits}
 use Rattle.sp_split.proofs.Unique.{one_split}
 use Rattle.sp_grow.specs.Below.{numbers}
-use Rattle.sp_grow.specs.Chosen.{IsBetter, IsAsGood, IsChosen}
+use Rattle.sp_grow.specs.Chosen.{IsBetter, IsAsGood}
 use Rattle.sp_grow.specs.Insertion.{Outcome, one, two, with_outcome, IsNode, Settles, Grows}
 use Rattle.sp_grow.specs.Members.{pick}
 use Rattle.sp_grow.specs.Grown.{IsGrown, IsRoot}

@@ -20,7 +20,7 @@ pub mod Ends
 pub mod Beginning
 pub mod Requesting
 pub mod Asking
-pub mod UpToLast
+pub mod Starts
 pub mod Stepping
 pub mod Untouched
 pub mod Dying
@@ -30,6 +30,7 @@ pub mod Finishing
 pub mod Operating
 pub mod Ready
 pub mod Marking
+pub mod Placing
 pub mod Growing
 pub mod Giving
 pub mod Adding

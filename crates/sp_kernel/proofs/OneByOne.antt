@@ -1,5 +1,11 @@
 -- The end of a transaction, made on the entries that it marked one after the other, is its end on all entries.
-use Rattle.std.proofs.Common.{◌≡◌, ◌≢◌, ℕ, Bool, true, false, cond, List, [], ◌∷◌, map, None, Some, refl, sym, ap, ◌∙◌, subst, inl, inr, true≢false}
+use Rattle.std.proofs.Common.{◌≡◌, ◌≢◌, ℕ, Bool, true, false, cond, List, [], ◌∷◌, map, None, Some, refl, sym, ap, ◌∙◌, subst, inl, inr, true≢false, filter}
+use Rattle.std.specs.List.{list_any}
+use Rattle.std.specs.List.Sorted.{IsPermutation, IsStrictlyIncreasing}
+use Rattle.std.proofs.lemmas.List.Sorted.{list_any-IsPermutation}
+use Rattle.sp_node.proofs.Laws.{one_of_number}
+use Rattle.sp_node.proofs.Members.{distinct_from_ascending}
+use Rattle.sp_kernel.proofs.Holding.{any-among, among-any}
 use Rattle.std.specs.Prelude.{nat_eq}
 use Rattle.std.specs.List.{IsDistinct}
 use Rattle.std.proofs.lemmas.Map.Keys.{IsDistinct-head, IsDistinct-tail}
@@ -16,12 +22,12 @@ use Rattle.sp_node.proofs.Among.{all_among, among_flat_map}
 use Rattle.sp_node.proofs.ByNumber.{node_of_number}
 use Rattle.sp_node.proofs.Single.{own}
 use Rattle.sp_node.proofs.Standing.{own_all, keys_distinct}
-use Rattle.sp_protection.proofs.Leaves.{among_map}
+use Rattle.sp_protection.proofs.Leaves.{among_map, from_map}
 use Rattle.sp_kernel.specs.declared.session.Session.{Session}
 use Rattle.sp_kernel.specs.State.{Kernel, entries_in, is_active}
 use Rattle.sp_kernel.specs.Unmarked.{IsUntouched, IsDeadUntouched, one_by_one, AreNumbersMarked}
 use Rattle.sp_kernel.specs.Soundness.{Sound}
-use Rattle.sp_kernel.proofs.Sessions.{number-tell, number-apart}
+use Rattle.sp_kernel.proofs.Sessions.{number-same, number-tell, number-apart, among-kept, of_kept}
 use Rattle.sp_kernel.proofs.Dead.{distinct-out}
 use Rattle.sp_kernel.proofs.Endings.{same_table}
 use Rattle.sp_kernel.proofs.Settling.{undone-keeps, settled-keeps}
@@ -128,3 +134,26 @@ settled_one_by_one k x numbers sound dead here active are = ended_one_by_one k x
 
 pub undone_one_by_one : (k : Kernel) (x : Session) (numbers : List ℕ) → Sound k → IsDeadUntouched k → Among x k.sessions → is_active x ≡ true → AreNumbersMarked k.tree x.txn.number numbers → one_by_one (undone x.txn.number) numbers k.tree ≡ table_with (undone x.txn.number) k.tree
 undone_one_by_one k x numbers sound dead here active are = ended_one_by_one k x (undone x.txn.number) (undone-keeps x.txn.number) (undone-same x.txn.number) sound dead here active numbers are
+
+-- the numbers of the marked entries, in ascending order
+pub numbers_marked : (t : Table) (txn : ℕ) (numbers : List ℕ) → IsValid t → IsPermutation (map (λ e. e.number) (filter (is_marked txn) (entries_of t))) numbers → IsStrictlyIncreasing numbers → AreNumbersMarked t txn numbers
+numbers_marked t txn numbers v permutes rises = record {
+  once = distinct_from_ascending numbers rises;
+  marked = λ e i j. mark e i (from_map (λ (z : Entry). z.number) e.number (filter (is_marked txn) (entries_of t)) (back e.number j));
+  all = λ e i m. there e.number (among_map (λ (z : Entry). z.number) e (filter (is_marked txn) (entries_of t)) (among-kept (is_marked txn) e (entries_of t) i m));
+}
+  where
+    alike : (n : ℕ) → list_any (nat_eq n) (map (λ (e : Entry). e.number) (filter (is_marked txn) (entries_of t))) ≡ list_any (nat_eq n) numbers
+    alike n = list_any-IsPermutation (nat_eq n) (map (λ (e : Entry). e.number) (filter (is_marked txn) (entries_of t))) numbers permutes
+
+    found : (n : ℕ) (ns : List ℕ) → list_any (nat_eq n) ns ≡ true → Among n ns
+    found n ns h = let a = any-among (nat_eq n) ns h in subst (λ (m : ℕ). Among m ns) (sym (number-same n a.0 a.2)) a.1
+
+    back : (n : ℕ) → Among n numbers → Among n (map (λ (e : Entry). e.number) (filter (is_marked txn) (entries_of t)))
+    back n i = found n (map (λ (e : Entry). e.number) (filter (is_marked txn) (entries_of t))) (alike n ∙ among-any (nat_eq n) n numbers i (number-tell n n refl))
+
+    there : (n : ℕ) → Among n (map (λ (e : Entry). e.number) (filter (is_marked txn) (entries_of t))) → Among n numbers
+    there n i = found n numbers (sym (alike n) ∙ among-any (nat_eq n) n (map (λ (e : Entry). e.number) (filter (is_marked txn) (entries_of t))) i (number-tell n n refl))
+
+    mark : (e : Entry) → Among e (entries_of t) → (o : Entry) × Among o (filter (is_marked txn) (entries_of t)) × (o.number ≡ e.number) → is_marked txn e ≡ true
+    mark e i (o, j, same) = let k = of_kept (is_marked txn) o (entries_of t) j in ap (is_marked txn) (one_of_number t v e o i k.0 (sym same)) ∙ k.1

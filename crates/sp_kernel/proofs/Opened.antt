@@ -1,12 +1,12 @@
 -- The kernel that opening gives is sound.
-use Rattle.std.proofs.Common.{◌≡◌, ◌≢◌, ◌⊎◌, ℕ, ◌+◌, ◌*◌, ◌<◌, ◌≤◌, ◌^◌, Bool, true, false, not, ◌&&◌, ◌||◌, if◌then◌else◌, List, [], ◌∷◌, ◌++◌, map, length, None, refl, sym, ap, ◌∙◌, subst, inl, inr, true≢false, arith}
+use Rattle.std.proofs.Common.{◌≡◌, ◌≢◌, ◌⊎◌, ℕ, ◌+◌, ◌*◌, ◌<◌, ◌≤◌, Bool, true, false, not, ◌&&◌, ◌||◌, if◌then◌else◌, List, [], ◌∷◌, ◌++◌, length, None, refl, sym, ap, ◌∙◌, subst, inl, inr, true≢false, arith}
 use Rattle.std.specs.Prelude.{nat_le}
 use Rattle.std.proofs.lemmas.Bool.Decides.{nat_tests}
 use Rattle.std.proofs.lemmas.List.{length-append}
 use Rattle.sp_rect.specs.declared.record.Record.{Record}
 use Rattle.sp_rect.specs.Store.{with_record, IsOrderedFrom, IsOrdered}
 use Rattle.sp_locks.proofs.Keeping.{empty-sound}
-use Rattle.sp_waits.specs.Edges.{Chain, waits_of, NoCycle}
+use Rattle.sp_waits.specs.Edges.{Chain, waits_of}
 use Rattle.sp_node.specs.declared.marks.Made.TheVariants.{Committed}
 use Rattle.sp_node.specs.declared.marks.Ended.TheVariants.{Nobody}
 use Rattle.sp_node.specs.declared.marks.Draft.TheVariants.{None as NoDraft}
@@ -19,8 +19,7 @@ use Rattle.sp_node.specs.Table.{Table, IsShape, IsValid, level_of, entries_of, e
 use Rattle.sp_node.proofs.Empty.{empty_valid}
 use Rattle.sp_txn.specs.Visible.{is_live, record_of, live}
 use Rattle.sp_protection.proofs.Rearranging.{rearranged, ordered_parts, one_each}
-use Rattle.sp_kernel.specs.State.{Kernel, entries_in}
-use Rattle.sp_kernel.specs.Refusals.{first_unused}
+use Rattle.sp_kernel.specs.State.{Kernel}
 use Rattle.sp_kernel.specs.Plans.{IsInserted}
 use Rattle.sp_kernel.specs.Stepped.{most_entries}
 use Rattle.sp_kernel.specs.Opening.{committed_entry, IsRebuilt, IsOpened}

@@ -8,3 +8,4 @@ pub mod Opening
 pub mod Runs
 pub mod Removal
 pub mod Unmarked
+pub mod Places

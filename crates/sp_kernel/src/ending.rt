@@ -1,16 +1,20 @@
 // Laws of the events by which transactions end, and dead entries go.
 ghost use Rattle.std.specs.Prelude.{◌≡◌, ℕ, true, List, None};
+ghost use Rattle.sp_rect.specs.declared.commit.Commit.{Commit as AnyCommit};
 ghost use Rattle.sp_node.specs.Among.{Among};
 ghost use Rattle.sp_node.specs.Change.{table_with};
 ghost use Rattle.sp_node.specs.Marks.{settled, undone};
 ghost use Rattle.sp_event.specs.declared.event.Event.{Event as AnyEvent};
 ghost use Rattle.sp_event.specs.declared.event.Event.TheVariants.{Commit as AskCommit, Rollback as AskRollback, Flush as AskFlush, Clean as AskClean};
 ghost use Rattle.sp_event.specs.declared.answer.Answer.{Answer as AnyAnswer};
+ghost use Rattle.sp_event.specs.declared.answer.Answer.TheVariants.{Committed};
 ghost use Rattle.sp_kernel.specs.declared.session.Session.{Session as AnySession};
+ghost use Rattle.sp_kernel.specs.declared.session.Stage.TheVariants.{Placed};
+ghost use Rattle.sp_kernel.specs.Places.{HasPlaces};
 ghost use Rattle.sp_kernel.specs.State.{Kernel, is_active};
 ghost use Rattle.sp_kernel.specs.Refusals.{turned_away};
 ghost use Rattle.sp_kernel.specs.Removal.{KeepsOthers};
-ghost use Rattle.sp_kernel.specs.Stepped.{Does};
+ghost use Rattle.sp_kernel.specs.Stepped.{Does, IsAt};
 ghost use Rattle.sp_kernel.specs.Soundness.{Sound};
 ghost use Rattle.sp_kernel.specs.Unmarked.{IsDeadUntouched, AreNumbersMarked, one_by_one};
 
@@ -52,4 +56,14 @@ pub fn ends_change_marked_entries()
     ensures rollback { (k : Kernel) (x : AnySession) (numbers : List ℕ) → Sound k → IsDeadUntouched k → Among x k.sessions → is_active x ≡ true
         → AreNumbersMarked k.tree x.txn.number numbers
         → one_by_one (undone x.txn.number) numbers k.tree ≡ table_with (undone x.txn.number) k.tree }
+{}
+
+/// A law: each event leaves the last commit of a placed session in the audit that of its transaction. So
+/// its next commit is answered with the place that its transaction took.
+pub fn placed_sessions_are_told_their_places()
+    ensures stays { (k : Kernel) (event : AnyEvent) (answer : AnyAnswer) (after : Kernel) → Sound k → HasPlaces k
+        → Does KeepsOthers k event answer after → HasPlaces after }
+    ensures told { (k : Kernel) (s : ℕ) (x : AnySession) (answer : AnyAnswer) (after : Kernel) → HasPlaces k → IsAt k s x → x.stage ≡ Placed
+        → Does KeepsOthers k (AskCommit s) answer after
+        → (c : AnyCommit) × Among c k.commits × (c.txn ≡ x.txn.number) × (answer ≡ Committed c.place) }
 {}

@@ -8,10 +8,10 @@ mod requests;
 mod session;
 
 pub use ending::{
-    commits_keep_sound, ends_change_marked_entries, flushes_keep_sound, removals_keep_sound,
-    rollbacks_keep_sound,
+    commits_keep_sound, ends_change_marked_entries, flushes_keep_sound,
+    placed_sessions_are_told_their_places, removals_keep_sound, rollbacks_keep_sound,
 };
 pub use opening::opened_is_sound;
 pub use operations::operations_keep_sound;
-pub use requests::{requests_keep_sound, stages_keep_sound};
+pub use requests::{begins_keep_sound, plans_keep_sound, requests_keep_sound};
 pub use session::{Session, Stage};

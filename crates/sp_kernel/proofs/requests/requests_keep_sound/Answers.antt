@@ -1,15 +1,9 @@
-use Rattle.sp_kernel.proofs.Staging.{names_nothing-sound, has_waited-sound}
-use Rattle.sp_kernel.proofs.Asking.{names-sound, asks-sound}
+use Rattle.sp_kernel.specs.Removal.{KeepsOthers}
+use Rattle.sp_kernel.proofs.Starts.{name_keeps, ask_keeps}
 use Rattle.sp_kernel.proofs.requests.requests_keep_sound.Goals as goal
 
-pub returns-clause-names_nothing : goal.returns-clause-names_nothing
-returns-clause-names_nothing c k s x op sound found at none = names_nothing-sound k s x op sound found at none
+pub returns-clause-name : goal.returns-clause-name
+returns-clause-name c = name_keeps KeepsOthers
 
-pub returns-clause-names : goal.returns-clause-names
-returns-clause-names c k after s x op name mode answer sound found at asked asks = names-sound k s x op name mode answer after sound found at asked asks
-
-pub returns-clause-has_waited : goal.returns-clause-has_waited
-returns-clause-has_waited c k s x op sound let_in found at = has_waited-sound k s x op sound let_in found at
-
-pub returns-clause-asks : goal.returns-clause-asks
-returns-clause-asks c k after s x op need left answer sound found at asked = asks-sound k s x op need left answer after sound found at asked
+pub returns-clause-ask : goal.returns-clause-ask
+returns-clause-ask c = ask_keeps KeepsOthers
