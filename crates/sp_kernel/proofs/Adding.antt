@@ -220,9 +220,18 @@ module _ (k : Kernel) (x : Session) (r : Record) (after : Table) (chosen : ℕ) 
   leaves_marks : (u : ℕ) → LeavesMarks t u (Put r) es
   leaves_marks u f i c = absurd (true≢false (sym c))
 
-  -- the needs
-  needs : PutNeeds k x r after (ready k x (Put r) sound here at).1.commit (ready k x (Put r) sound here at).1.short
-  needs = put_needs k x r after chosen (ready k x (Put r) sound here at).1.commit (ready k x (Put r) sound here at).1.short sound.valid adding inserts (ready k x (Put r) sound here at).1.needs
+  -- the needs: those that are asked for the moment are those that no commit need covers
+  abbrev commit : List Need
+  commit = (ready k x (Put r) sound here at).1.commit
+
+  abbrev short : List Need
+  short = (ready k x (Put r) sound here at).1.short
+
+  abbrev asked : List Need
+  asked = filter (λ need. not (is_covered commit need)) short
+
+  needs : PutNeeds k x r after commit short
+  needs = put_needs k x r after chosen commit short sound.valid adding inserts (ready k x (Put r) sound here at).1.needs
 
   put : IsPutInto k.tree after e needs.chosen
   put = record {
@@ -237,25 +246,25 @@ module _ (k : Kernel) (x : Session) (r : Record) (after : Table) (chosen : ℕ) 
   among_all : (lock : Lock) → Among lock locks → Among lock all
   among_all lock i = let o = of_locks k.sessions k.locks lock i in subst (λ (l : Lock). Among l all) o.same (among_all_locks k.sessions k.locks o.owner o.row o.among o.stands o.is.held o.is.by)
 
-  asked_short : AreAskedOrHeld locks t (ready k x (Put r) sound here at).1.short (filter (λ need. not (is_covered (ready k x (Put r) sound here at).1.commit need)) (ready k x (Put r) sound here at).1.short)
-  asked_short need i = go (is_covered (ready k x (Put r) sound here at).1.commit need) refl
+  asked_short : AreAskedOrHeld locks t short asked
+  asked_short need i = go (is_covered commit need) refl
     where
       itself : (m : Mode) → covers m m ≡ true
       itself m = grind arith
 
-      go : (b : Bool) → is_covered (ready k x (Put r) sound here at).1.commit need ≡ b
-          → IsAsked (filter (λ n. not (is_covered (ready k x (Put r) sound here at).1.commit n)) (ready k x (Put r) sound here at).1.short) need.name need.mode ⊎ HoldsMode locks t need.name need.mode
-      go false c = inl (record { need = need; among = among-kept (λ n. not (is_covered (ready k x (Put r) sound here at).1.commit n)) need (ready k x (Put r) sound here at).1.short i (ap not c); on_name = refl; enough = itself need.mode })
+      go : (b : Bool) → is_covered commit need ≡ b
+          → IsAsked asked need.name need.mode ⊎ HoldsMode locks t need.name need.mode
+      go false c = inl (record { need = need; among = among-kept (λ n. not (is_covered commit n)) need short i (ap not c); on_name = refl; enough = itself need.mode })
       go true c =
-          let o = any-among (λ other. same_name other.name need.name && covers other.mode need.mode) (ready k x (Put r) sound here at).1.commit c in
+          let o = any-among (λ other. same_name other.name need.name && covers other.mode need.mode) commit c in
           let named : o.0.name ≡ need.name = same_is o.0.name need.name (first_of_both (same_name o.0.name need.name) (covers o.0.mode need.mode) o.2) in
           inr (subst (λ (n : Name). HoldsMode locks t n need.mode) named
           (holds_weaker locks t o.0.name o.0.mode need.mode (ready_commit k x (Put r) sound here at o.0 o.1) (second_of_both (same_name o.0.name need.name) (covers o.0.mode need.mode) o.2)))
 
-  holds_asked : HoldsEach all t (filter (λ need. not (is_covered (ready k x (Put r) sound here at).1.commit need)) (ready k x (Put r) sound here at).1.short)
+  holds_asked : HoldsEach all t asked
   holds_asked need i =
-      let m = of_kept (λ n. not (is_covered (ready k x (Put r) sound here at).1.commit n)) need (ready k x (Put r) sound here at).1.short i in
-      met_mode k.sessions k.locks x need.name need.mode here (of_met k.locks s need (held ((ready k x (Put r) sound here at).1.short_met need m.0 (uncovered (is_covered (ready k x (Put r) sound here at).1.commit need) m.1))))
+      let m = of_kept (λ n. not (is_covered commit n)) need short i in
+      met_mode k.sessions k.locks x need.name need.mode here (of_met k.locks s need (held ((ready k x (Put r) sound here at).1.short_met need m.0 (uncovered (is_covered commit need) m.1))))
     where
       uncovered : (b : Bool) → not b ≡ true → b ≡ false
       uncovered b h = grind arith
@@ -264,7 +273,7 @@ module _ (k : Kernel) (x : Session) (r : Record) (after : Table) (chosen : ℕ) 
       held (inl h) = h
       held (inr n) = absurd n
 
-  holds_needs : HoldsPutNeeds k.tree after needs.chosen x.txn.searches locks all t (ready k x (Put r) sound here at).1.commit (ready k x (Put r) sound here at).1.short (filter (λ need. not (is_covered (ready k x (Put r) sound here at).1.commit need)) (ready k x (Put r) sound here at).1.short)
+  holds_needs : HoldsPutNeeds k.tree after needs.chosen x.txn.searches locks all t commit short asked
   holds_needs = record {
     are_commit = needs.are_commit;
     are_short = needs.are_short;
@@ -316,8 +325,8 @@ module _ (k : Kernel) (x : Session) (r : Record) (after : Table) (chosen : ℕ) 
       intent g y j leaf new i (inr same) = wanted_gift (OnGranule g.number) IX (GiftWant.OwnLeaf e g new_in mine j (leaf, subst (λ (z : Standing). Among z g.entries) same i) new)
 
   keeps : KeepsAll es gs gs' locks (locks ++ handed) t (standing e)
-  keeps = put_keeps_all k.tree after e needs.chosen t x.txn.searches es locks all handed (ready k x (Put r) sound here at).1.commit (ready k x (Put r) sound here at).1.short
-      (filter (λ need. not (is_covered (ready k x (Put r) sound here at).1.commit need)) (ready k x (Put r) sound here at).1.short) put holds_needs given_all
+  keeps = put_keeps_all k.tree after e needs.chosen t x.txn.searches es locks all handed commit short
+      asked put holds_needs given_all
 
   -- the rows
   quiet : waiting_in s k.locks ≡ None
@@ -422,8 +431,8 @@ module _ (k : Kernel) (x : Session) (r : Record) (after : Table) (chosen : ℕ) 
   own_part : (p : Part) → ((rect : Rectangle) → p ≡ Area rect → Among rect x.txn.searches × IsRectangle rect) → HoldsPart gs locks t p → HoldsPart gs' (locks ++ handed) t p
   own_part (Id id) looked h = holds-more locks handed t (Object id) S h
   own_part (Area rect) looked h = let l = looked rect refl in
-      put_still_guards k.tree after e needs.chosen t x.txn.searches es locks all handed (ready k x (Put r) sound here at).1.commit (ready k x (Put r) sound here at).1.short
-      (filter (λ need. not (is_covered (ready k x (Put r) sound here at).1.commit need)) (ready k x (Put r) sound here at).1.short) rect holds_needs given_all l.0 l.1 h
+      put_still_guards k.tree after e needs.chosen t x.txn.searches es locks all handed commit short
+      asked rect holds_needs given_all l.0 l.1 h
 
   looked : (pair : Answered) → Among pair x.txn.ops → (rect : Rectangle) → part_of pair.op ≡ Area rect → Among rect x.txn.searches × IsRectangle rect
   looked pair i rect is = (

@@ -9,6 +9,7 @@ use Rattle.sp_rect.specs.declared.operation.Reply.{Reply}
 use Rattle.sp_locks.specs.declared.row.Row.{Row}
 use Rattle.sp_locks.specs.declared.row.Scope.TheVariants.{ShortLocks}
 use Rattle.sp_locks.specs.declared.needs.Need.{Need}
+use Rattle.sp_locks.specs.declared.row.Duration.TheVariants.{Commit}
 use Rattle.sp_locks.specs.Rows.{waiting_in}
 use Rattle.sp_locks.specs.Table.{released}
 use Rattle.sp_locks.proofs.Keeping.{release-sound}
@@ -24,6 +25,7 @@ use Rattle.sp_txn.specs.Visible.{is_visible, record_for, live, view}
 use Rattle.sp_protection.specs.Holding.{Lock, AllCompatible}
 use Rattle.sp_protection.specs.Guarding.{Owned, MarksOwned}
 use Rattle.sp_protection.specs.Effects.{is_marking, is_changed, marks_by, marked_by, fresh, applied}
+use Rattle.sp_protection.specs.Needs.{StayWant, AreNeedsOf}
 use Rattle.sp_protection.specs.Replays.{Replays, HoldsPart, HoldsParts, LeavesMarks}
 use Rattle.sp_protection.proofs.Applying.{applied-live, apply_replays, other_replays}
 use Rattle.sp_protection.proofs.Commits.{locks_leave_marks}
@@ -146,9 +148,14 @@ module _ (k : Kernel) (x : Session) (op : Op) (sound : Sound k) (here : Among x 
   compatible : AllCompatible locks
   compatible = locks-compatible k.next_txn (length k.commits) k.sessions k.locks sound.sessions sound.locks
 
+  abbrev commit : List Need
+  commit = (ready k x op sound here at).1.commit
+
+  needs : AreNeedsOf (StayWant (granules k.tree) es t op) Commit commit
+  needs = stay_needs k x op commit (ready k x op sound here at).1.short plain (ready k x op sound here at).1.needs
+
   changes_owned : (e : Entry) → Among e es → is_changed t op e ≡ true → Owned (granules k.tree) locks t (standing e)
-  changes_owned e = changed_owned k.tree locks t op (ready k x op sound here at).1.commit e sound.valid (ready_space k x op sound here at)
-      (stay_needs k x op (ready k x op sound here at).1.commit (ready k x op sound here at).1.short plain (ready k x op sound here at).1.needs)
+  changes_owned e = changed_owned k.tree locks t op commit e sound.valid (ready_space k x op sound here at) needs
       (ready_commit k x op sound here at) (named_held locks t op (ready_object k x op sound here at))
 
   leaves_marks : (y : Session) → Among y k.sessions → y.txn.session ≢ s → LeavesMarks t y.txn.number op es
@@ -173,8 +180,7 @@ module _ (k : Kernel) (x : Session) (op : Op) (sound : Sound k) (here : Among x 
   gs = granules_with (marked_by t op) keeps k.tree
 
   part : HoldsPart (granules k.tree) locks t (part_of op)
-  part = part_held (granules k.tree) locks t op (ready_object k x op sound here at) (λ rect e. needs_guard k.tree es locks t op rect (ready k x op sound here at).1.commit e (ready_space k x op sound here at rect e)
-      (stay_needs k x op (ready k x op sound here at).1.commit (ready k x op sound here at).1.short plain (ready k x op sound here at).1.needs) (ready_commit k x op sound here at))
+  part = part_held (granules k.tree) locks t op (ready_object k x op sound here at) (λ rect e. needs_guard k.tree es locks t op rect commit e (ready_space k x op sound here at rect e) needs (ready_commit k x op sound here at))
 
   owned : MarksOwned (granules tree) (locks_of xs rows) (entries_of tree)
   owned =
