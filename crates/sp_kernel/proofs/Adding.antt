@@ -1,10 +1,8 @@
 -- A put that adds an entry keeps a kernel sound.
-use Rattle.std.proofs.Common.{◌≡◌, ◌≢◌, ◌⊎◌, ℕ, ◌+◌, ◌<◌, ◌≤◌, ◌^◌, Bool, true, false, cond, not, ◌&&◌, ◌||◌, List, [], ◌∷◌, ◌++◌, map, filter, length, Option, Some, None, nat_eq, nat_lt, refl, sym, ap, ap₂, ◌∙◌, subst, inl, inr, true≢false, arith}
+use Rattle.std.proofs.Common.{◌≡◌, ◌≢◌, ◌⊎◌, ℕ, ◌+◌, ◌<◌, ◌≤◌, ◌^◌, Bool, true, false, not, ◌&&◌, ◌||◌, List, [], ◌∷◌, ◌++◌, map, filter, length, Option, Some, None, nat_eq, nat_lt, refl, sym, ap, ap₂, ◌∙◌, subst, inl, inr, true≢false, arith}
 use Rattle.std.specs.Prelude.{nat_le}
 use Rattle.std.specs.Option.{MatchOption}
-use Rattle.std.specs.List.{IsDistinct, flat_map}
 use Rattle.std.proofs.lemmas.Bool.Decides.{nat_tests}
-use Rattle.std.proofs.lemmas.List.{length-map}
 use Rattle.sp_list.specs.Emptiness.{is_empty}
 use Rattle.sp_rect.specs.Plane.{Rectangle, IsRectangle}
 use Rattle.sp_rect.specs.Serial.{records_after, RepliesAsPlain}
@@ -23,7 +21,7 @@ use Rattle.sp_locks.specs.declared.row.Scope.TheVariants.{ShortLocks}
 use Rattle.sp_locks.specs.declared.row.Duration.TheVariants.{Commit, Short}
 use Rattle.sp_locks.specs.declared.needs.Need.{Need}
 use Rattle.sp_locks.specs.Modes.{covers}
-use Rattle.sp_locks.specs.Rows.{same_name, is_short, waiting_in}
+use Rattle.sp_locks.specs.Rows.{same_name, waiting_in}
 use Rattle.sp_locks.specs.Table.{released, lock_for, given}
 use Rattle.sp_locks.specs.Soundness.{IsSound}
 use Rattle.sp_locks.proofs.Giving.{free-in_turn}
@@ -36,10 +34,9 @@ use Rattle.sp_node.specs.declared.node.Entry.{Entry}
 use Rattle.sp_node.specs.Among.{Among}
 use Rattle.sp_node.specs.Index.{leaf_with}
 use Rattle.sp_node.specs.Marks.{is_marked, is_made_by, is_ended_by, is_draft_of, is_done}
-use Rattle.sp_node.specs.Plan.{SameEntries}
 use Rattle.sp_node.specs.Standing.{HasNoEntry, IsLeafOf}
-use Rattle.sp_node.specs.Table.{Table, IsValid, level_of, places_of, entries_of}
-use Rattle.sp_node.proofs.Among.{among_left, among_right, among_split, among_flat_map, from_flat_map}
+use Rattle.sp_node.specs.Table.{Table, IsValid, places_of, entries_of}
+use Rattle.sp_node.proofs.Among.{among_left, among_right, among_split, among_flat_map}
 use Rattle.sp_node.proofs.Single.{own}
 use Rattle.sp_node.proofs.Standing.{own_all, leaf_stands}
 use Rattle.sp_grow.specs.Chosen.{ReachesOf}
@@ -47,13 +44,13 @@ use Rattle.sp_grow.specs.Grown.{IsGrown}
 use Rattle.sp_grow.proofs.After.{among_from_contains}
 use Rattle.sp_granule.specs.Granules.{Granule, Standing, standing, granules}
 use Rattle.sp_txn.specs.Visible.{is_live, is_visible, record_of, record_for, live, view}
-use Rattle.sp_protection.specs.Holding.{Lock, HoldsMode, AllCompatible, AreBelow}
-use Rattle.sp_protection.specs.Guarding.{Guarded, Owned, MarksOwned}
+use Rattle.sp_protection.specs.Holding.{Lock, HoldsMode}
+use Rattle.sp_protection.specs.Guarding.{MarksOwned}
 use Rattle.sp_protection.specs.Effects.{marked_by, fresh, entered, applied}
 use Rattle.sp_protection.specs.Insertion.{IsMarkedEntry, KeepsAll}
-use Rattle.sp_protection.specs.Asking.{IsAsked, AreAskedOrHeld, HoldsEach, HoldsGifts}
-use Rattle.sp_protection.specs.Needs.{StandsIn, GranuleMeets, PutWant, ShortWant, AreNeedsOf}
-use Rattle.sp_protection.specs.Replays.{Replays, HoldsPart, HoldsParts, LeavesMarks, SameMembers}
+use Rattle.sp_protection.specs.Asking.{IsAsked, AreAskedOrHeld, HoldsEach}
+use Rattle.sp_protection.specs.Needs.{PutWant, ShortWant, AreNeedsOf}
+use Rattle.sp_protection.specs.Replays.{Replays, HoldsPart, LeavesMarks, SameMembers}
 use Rattle.sp_protection.specs.Reshape.{HasNumber}
 use Rattle.sp_protection.proofs.Applying.{applied-live, apply_replays, other_replays}
 use Rattle.sp_protection.proofs.Insertions.{holds-more}
@@ -66,17 +63,15 @@ use Rattle.sp_lawful.specs.Put.{IsPutInto, HoldsPutNeeds, AreGiven}
 use Rattle.sp_lawful.proofs.Putting.{put_keeps_all, put_still_guards}
 use Rattle.sp_kernel.specs.declared.session.Session.{Session}
 use Rattle.sp_kernel.specs.declared.session.Stage.{Stage}
-use Rattle.sp_kernel.specs.declared.session.Stage.TheVariants.{Idle, Planned}
-use Rattle.sp_kernel.specs.State.{Kernel, entries_in, is_active_stage, is_active, area_of, searched, with_change, locks_of}
-use Rattle.sp_kernel.specs.Refusals.{is_search, under_way, first_unused}
+use Rattle.sp_kernel.specs.declared.session.Stage.TheVariants.{Planned}
+use Rattle.sp_kernel.specs.State.{Kernel, entries_in, is_active_stage, is_active, area_of, with_change, locks_of}
+use Rattle.sp_kernel.specs.Refusals.{under_way, first_unused}
 use Rattle.sp_kernel.specs.Moves.{inserted}
-use Rattle.sp_kernel.specs.Plans.{is_adding, Inserts, HasNeeds, Stays, Adds, GiftWant, AreGiftsOf, is_held, is_covered}
+use Rattle.sp_kernel.specs.Plans.{is_adding, Inserts, HasNeeds, Stays, Adds, GiftWant, AreGiftsOf, is_covered}
 use Rattle.sp_kernel.specs.Stepped.{records_in, kept_records, most_records_told, reply_of, PassesEntries, PassesNumbers, most_entries}
-use Rattle.sp_kernel.specs.Soundness.{MayHave, RowsOwned, HasOwner, NamesUsed, SharesLatch, AwaitsObject, HoldsStage, NumbersUsed, DeadListed, is_met, is_queued, Sound}
+use Rattle.sp_kernel.specs.Soundness.{MayHave, RowsOwned, HasOwner, NamesUsed, SharesLatch, HoldsStage, NumbersUsed, DeadListed, is_met, is_queued, Sound}
 use Rattle.sp_kernel.proofs.Sessions.{number-same, number-differ, among-kept, of_kept}
-use Rattle.sp_kernel.proofs.Holding.{any-among, first_of_both, second_of_both, IsLock, StayHeld, HoldsStill, of_met, given-stays, met-held, released-others, released-short, locks-still, row-mode, of_locks, parts-still, part-still, marks_owned-still}
-use Rattle.sp_kernel.proofs.Counting.{length-sum}
-use Rattle.sp_kernel.proofs.Dead.{distinct-cons}
+use Rattle.sp_kernel.proofs.Holding.{any-among, first_of_both, second_of_both, StayHeld, HoldsStill, of_met, given-stays, met-held, released-others, released-short, locks-still, row-mode, of_locks, parts-still, part-still, marks_owned-still}
 use Rattle.sp_kernel.proofs.Released.{released-owned, released-names, released-awaits_object}
 use Rattle.sp_kernel.proofs.Requesting.{met-then}
 use Rattle.sp_kernel.proofs.Awake.{released-long}
@@ -84,9 +79,8 @@ use Rattle.sp_kernel.proofs.Planned.{stage_from}
 use Rattle.sp_kernel.proofs.Restaging.{there-changed}
 use Rattle.sp_kernel.proofs.Staging.{told}
 use Rattle.sp_kernel.proofs.Endings.{numbers-other, run_all}
-use Rattle.sp_kernel.proofs.Entering.{grown_only}
 use Rattle.sp_kernel.proofs.Finishing.{planned-awake}
-use Rattle.sp_kernel.proofs.Growing.{grown_granules, grown_sum, grown_has, grown_numbers, grown_next, few_levels}
+use Rattle.sp_kernel.proofs.Growing.{grown_granules, grown_numbers, grown_next, few_levels, entered_only, entered_new, entered_old, entered_members, entered_length}
 use Rattle.sp_kernel.proofs.Giving.{all_locks, met_mode, among_all_locks, all_compatible, OnNew, gift_new, gifts_free, gift_locks, gifts_new, of_given, given-awaits_object}
 use Rattle.sp_kernel.proofs.Operating.{done_with, done-keeps, kept-idle, with_done, FitsDone, done_with-sound}
 use Rattle.sp_kernel.proofs.Ready.{part_held, owned_done, ready, ready_space, ready_object, ready_commit}
@@ -173,24 +167,20 @@ module _ (k : Kernel) (x : Session) (r : Record) (after : Table) (chosen : ℕ) 
   active = told (λ (z : Stage). is_active_stage z ≡ true) x at refl
 
   -- the entries
-  only : (f : Entry) → Among f (entries_of after) → (f ≡ e) ⊎ Among f es
-  only = grown_only k.tree e after grown
-
   unused : (f : Entry) → Among f es → f.number ≢ k.next_entry
   unused f i same = low f.number k.next_entry (sound.entry_numbers f i) same
     where
       low : (m n : ℕ) → m < n → m ≡ n → ⊥
       low m n a b = omega arith
 
+  only : (f : Entry) → Among f (entries_of after) → (f ≡ e) ⊎ Among f es
+  only = entered_only k.tree e after sound.valid inserts.inserted unused
+
   new_in : Among e (entries_of after)
-  new_in = let g = grown_has k.tree e after sound.valid.shape grown e (inl refl) in go g.0 g.1 g.2 (only g.0 g.1)
-    where
-      go : (g : Entry) → Among g (entries_of after) → g.number ≡ k.next_entry → (g ≡ e) ⊎ Among g es → Among e (entries_of after)
-      go g i n (inl same) = subst (λ (z : Entry). Among z (entries_of after)) same i
-      go g i n (inr old) = absurd (unused g old n)
+  new_in = entered_new k.tree e after sound.valid inserts.inserted unused
 
   old_in : (f : Entry) → Among f es → Among f (entries_of after)
-  old_in f i = let g = grown_has k.tree e after sound.valid.shape grown f (inr i) in subst (λ (z : Entry). Among z (entries_of after)) (sym (inserts.inserted.same f g.0 i g.1 (sym g.2))) g.1
+  old_in = entered_old k.tree e after sound.valid inserts.inserted unused
 
   nothing_found : within (Id r.id) (view es t) ≡ []
   nothing_found = go (within (Id r.id) (view es t)) adding
@@ -203,21 +193,7 @@ module _ (k : Kernel) (x : Session) (r : Record) (after : Table) (chosen : ℕ) 
   as_applied = ap₂ (λ (a b : List Entry). a ++ b) (ap (entered t k.next_entry (Put r)) nothing_found) (put_same t r es)
 
   members : (test : Entry → Bool) → SameMembers test (e ∷ es) (entries_of after)
-  members test = record {
-    distinct = distinct-cons k.next_entry (map (λ f. f.number) es)
-        (λ i. let f = from_map (λ (z : Entry). z.number) k.next_entry es i in unused f.0 f.1 f.2) sound.valid.distinct_entries;
-    distinct_others = inserts.inserted.valid.distinct_entries;
-    there = λ f i h. there f i;
-    back = λ f i h. back f (only f i);
-  }
-    where
-      there : (f : Entry) → Among f (e ∷ es) → Among f (entries_of after)
-      there f (inl same) = subst (λ (z : Entry). Among z (entries_of after)) (sym same) new_in
-      there f (inr i) = old_in f i
-
-      back : (f : Entry) → (f ≡ e) ⊎ Among f es → Among f (e ∷ es)
-      back f (inl same) = inl same
-      back f (inr i) = inr i
+  members = entered_members k.tree e after sound.valid inserts.inserted unused
 
   -- what is live and what each transaction sees is what the operation leaves
   current : live (e ∷ es) ≡ live es
@@ -244,9 +220,18 @@ module _ (k : Kernel) (x : Session) (r : Record) (after : Table) (chosen : ℕ) 
   leaves_marks : (u : ℕ) → LeavesMarks t u (Put r) es
   leaves_marks u f i c = absurd (true≢false (sym c))
 
-  -- the needs
-  needs : PutNeeds k x r after (ready k x (Put r) sound here at).1.commit (ready k x (Put r) sound here at).1.short
-  needs = put_needs k x r after chosen (ready k x (Put r) sound here at).1.commit (ready k x (Put r) sound here at).1.short sound.valid adding inserts (ready k x (Put r) sound here at).1.needs
+  -- the needs: those that are asked for the moment are those that no commit need covers
+  abbrev commit : List Need
+  commit = (ready k x (Put r) sound here at).1.commit
+
+  abbrev short : List Need
+  short = (ready k x (Put r) sound here at).1.short
+
+  abbrev asked : List Need
+  asked = filter (λ need. not (is_covered commit need)) short
+
+  needs : PutNeeds k x r after commit short
+  needs = put_needs k x r after chosen commit short sound.valid adding inserts (ready k x (Put r) sound here at).1.needs
 
   put : IsPutInto k.tree after e needs.chosen
   put = record {
@@ -261,25 +246,25 @@ module _ (k : Kernel) (x : Session) (r : Record) (after : Table) (chosen : ℕ) 
   among_all : (lock : Lock) → Among lock locks → Among lock all
   among_all lock i = let o = of_locks k.sessions k.locks lock i in subst (λ (l : Lock). Among l all) o.same (among_all_locks k.sessions k.locks o.owner o.row o.among o.stands o.is.held o.is.by)
 
-  asked_short : AreAskedOrHeld locks t (ready k x (Put r) sound here at).1.short (filter (λ need. not (is_covered (ready k x (Put r) sound here at).1.commit need)) (ready k x (Put r) sound here at).1.short)
-  asked_short need i = go (is_covered (ready k x (Put r) sound here at).1.commit need) refl
+  asked_short : AreAskedOrHeld locks t short asked
+  asked_short need i = go (is_covered commit need) refl
     where
       itself : (m : Mode) → covers m m ≡ true
       itself m = grind arith
 
-      go : (b : Bool) → is_covered (ready k x (Put r) sound here at).1.commit need ≡ b
-          → IsAsked (filter (λ n. not (is_covered (ready k x (Put r) sound here at).1.commit n)) (ready k x (Put r) sound here at).1.short) need.name need.mode ⊎ HoldsMode locks t need.name need.mode
-      go false c = inl (record { need = need; among = among-kept (λ n. not (is_covered (ready k x (Put r) sound here at).1.commit n)) need (ready k x (Put r) sound here at).1.short i (ap not c); on_name = refl; enough = itself need.mode })
+      go : (b : Bool) → is_covered commit need ≡ b
+          → IsAsked asked need.name need.mode ⊎ HoldsMode locks t need.name need.mode
+      go false c = inl (record { need = need; among = among-kept (λ n. not (is_covered commit n)) need short i (ap not c); on_name = refl; enough = itself need.mode })
       go true c =
-          let o = any-among (λ other. same_name other.name need.name && covers other.mode need.mode) (ready k x (Put r) sound here at).1.commit c in
+          let o = any-among (λ other. same_name other.name need.name && covers other.mode need.mode) commit c in
           let named : o.0.name ≡ need.name = same_is o.0.name need.name (first_of_both (same_name o.0.name need.name) (covers o.0.mode need.mode) o.2) in
           inr (subst (λ (n : Name). HoldsMode locks t n need.mode) named
           (holds_weaker locks t o.0.name o.0.mode need.mode (ready_commit k x (Put r) sound here at o.0 o.1) (second_of_both (same_name o.0.name need.name) (covers o.0.mode need.mode) o.2)))
 
-  holds_asked : HoldsEach all t (filter (λ need. not (is_covered (ready k x (Put r) sound here at).1.commit need)) (ready k x (Put r) sound here at).1.short)
+  holds_asked : HoldsEach all t asked
   holds_asked need i =
-      let m = of_kept (λ n. not (is_covered (ready k x (Put r) sound here at).1.commit n)) need (ready k x (Put r) sound here at).1.short i in
-      met_mode k.sessions k.locks x need.name need.mode here (of_met k.locks s need (held ((ready k x (Put r) sound here at).1.short_met need m.0 (uncovered (is_covered (ready k x (Put r) sound here at).1.commit need) m.1))))
+      let m = of_kept (λ n. not (is_covered commit n)) need short i in
+      met_mode k.sessions k.locks x need.name need.mode here (of_met k.locks s need (held ((ready k x (Put r) sound here at).1.short_met need m.0 (uncovered (is_covered commit need) m.1))))
     where
       uncovered : (b : Bool) → not b ≡ true → b ≡ false
       uncovered b h = grind arith
@@ -288,7 +273,7 @@ module _ (k : Kernel) (x : Session) (r : Record) (after : Table) (chosen : ℕ) 
       held (inl h) = h
       held (inr n) = absurd n
 
-  holds_needs : HoldsPutNeeds k.tree after needs.chosen x.txn.searches locks all t (ready k x (Put r) sound here at).1.commit (ready k x (Put r) sound here at).1.short (filter (λ need. not (is_covered (ready k x (Put r) sound here at).1.commit need)) (ready k x (Put r) sound here at).1.short)
+  holds_needs : HoldsPutNeeds k.tree after needs.chosen x.txn.searches locks all t commit short asked
   holds_needs = record {
     are_commit = needs.are_commit;
     are_short = needs.are_short;
@@ -340,8 +325,8 @@ module _ (k : Kernel) (x : Session) (r : Record) (after : Table) (chosen : ℕ) 
       intent g y j leaf new i (inr same) = wanted_gift (OnGranule g.number) IX (GiftWant.OwnLeaf e g new_in mine j (leaf, subst (λ (z : Standing). Among z g.entries) same i) new)
 
   keeps : KeepsAll es gs gs' locks (locks ++ handed) t (standing e)
-  keeps = put_keeps_all k.tree after e needs.chosen t x.txn.searches es locks all handed (ready k x (Put r) sound here at).1.commit (ready k x (Put r) sound here at).1.short
-      (filter (λ need. not (is_covered (ready k x (Put r) sound here at).1.commit need)) (ready k x (Put r) sound here at).1.short) put holds_needs given_all
+  keeps = put_keeps_all k.tree after e needs.chosen t x.txn.searches es locks all handed commit short
+      asked put holds_needs given_all
 
   -- the rows
   quiet : waiting_in s k.locks ≡ None
@@ -446,8 +431,8 @@ module _ (k : Kernel) (x : Session) (r : Record) (after : Table) (chosen : ℕ) 
   own_part : (p : Part) → ((rect : Rectangle) → p ≡ Area rect → Among rect x.txn.searches × IsRectangle rect) → HoldsPart gs locks t p → HoldsPart gs' (locks ++ handed) t p
   own_part (Id id) looked h = holds-more locks handed t (Object id) S h
   own_part (Area rect) looked h = let l = looked rect refl in
-      put_still_guards k.tree after e needs.chosen t x.txn.searches es locks all handed (ready k x (Put r) sound here at).1.commit (ready k x (Put r) sound here at).1.short
-      (filter (λ need. not (is_covered (ready k x (Put r) sound here at).1.commit need)) (ready k x (Put r) sound here at).1.short) rect holds_needs given_all l.0 l.1 h
+      put_still_guards k.tree after e needs.chosen t x.txn.searches es locks all handed commit short
+      asked rect holds_needs given_all l.0 l.1 h
 
   looked : (pair : Answered) → Among pair x.txn.ops → (rect : Rectangle) → part_of pair.op ≡ Area rect → Among rect x.txn.searches × IsRectangle rect
   looked pair i rect is = (
@@ -505,7 +490,7 @@ module _ (k : Kernel) (x : Session) (r : Record) (after : Table) (chosen : ℕ) 
 
   -- the counts
   one_more : length (entries_of after) ≡ length es + 1
-  one_more = let a = length-sum (entries_of after) in let b = length-sum es in let c = grown_sum k.tree e after sound.valid.shape grown (λ z. 1) in omega (arith, a, b, c)
+  one_more = entered_length k.tree e after sound.valid inserts.inserted unused
 
   entries : length (entries_of after) ≤ most_entries
   entries = go (nat_le most_entries (length es)) refl

@@ -1,7 +1,5 @@
 -- An operation that is applied keeps a kernel sound, whatever it is answered.
-use Rattle.std.proofs.Common.{◌≡◌, ℕ, List, [], subst, sym}
-use Rattle.sp_rect.specs.declared.operation.Op.{Op}
-use Rattle.sp_node.specs.Among.{Among}
+use Rattle.std.proofs.Common.{ℕ, []}
 use Rattle.sp_node.specs.Table.{Table}
 use Rattle.sp_event.specs.declared.event.Event.TheVariants.{Apply}
 use Rattle.sp_event.specs.declared.answer.Answer.{Answer}

@@ -1,5 +1,5 @@
 -- The end of an operation keeps a kernel sound: the latch and the short locks go.
-use Rattle.std.proofs.Common.{◌≡◌, ◌≢◌, ◌⊎◌, ℕ, ◌<◌, ◌≤◌, Bool, true, false, List, [], ◌∷◌, None, nat_eq, refl, sym, subst, arith}
+use Rattle.std.proofs.Common.{◌≡◌, ℕ, ◌≤◌, Bool, true, false, List, None, nat_eq, refl, sym, subst, arith}
 use Rattle.sp_rect.specs.declared.operation.Op.{Op}
 use Rattle.sp_locks.specs.declared.needs.Need.{Need}
 use Rattle.sp_locks.specs.declared.row.Row.{Row}
@@ -10,7 +10,7 @@ use Rattle.sp_node.specs.Among.{Among}
 use Rattle.sp_kernel.specs.declared.session.Session.{Session}
 use Rattle.sp_kernel.specs.declared.session.Stage.{Stage}
 use Rattle.sp_kernel.specs.declared.session.Stage.TheVariants.{Idle, Started, NameWait, Named, NeedWait, Planned, Queued, Placed}
-use Rattle.sp_kernel.specs.State.{Kernel, is_active, is_active_stage, staged}
+use Rattle.sp_kernel.specs.State.{Kernel, is_active, is_active_stage}
 use Rattle.sp_kernel.specs.Moves.{finished}
 use Rattle.sp_kernel.specs.Soundness.{MayHave, SharesLatch, is_queued, Sound}
 use Rattle.sp_locks.proofs.Keeping.{release-sound}
@@ -20,7 +20,7 @@ use Rattle.sp_kernel.proofs.Sessions.{number-same, number-differ}
 use Rattle.sp_kernel.proofs.Holding.{StayHeld, met-held, released-others, released-short}
 use Rattle.sp_kernel.proofs.Released.{released-owned, released-names, released-awaits_object}
 use Rattle.sp_kernel.proofs.Limits.{counts-no_more}
-use Rattle.sp_kernel.proofs.Awake.{may-have, awake, released-awake, released-long, owned-staged}
+use Rattle.sp_kernel.proofs.Awake.{may-have, awake, released-long, owned-staged}
 use Rattle.sp_kernel.proofs.Restaging.{restaged-sound}
 use Rattle.sp_kernel.proofs.Staging.{told}
 

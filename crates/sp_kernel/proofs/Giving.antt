@@ -1,17 +1,16 @@
 -- The locks that an insertion hands out on new granules, among the rows.
-use Rattle.std.proofs.Common.{◌≡◌, ◌≢◌, ◌⊎◌, ℕ, ◌<◌, ◌≤◌, Bool, true, false, cond, ◌&&◌, ◌||◌, List, [], ◌∷◌, ◌++◌, map, filter, None, nat_eq, refl, sym, ap, ◌∙◌, subst, inl, inr, true≢false, arith}
+use Rattle.std.proofs.Common.{◌≡◌, ◌≢◌, ◌⊎◌, ℕ, ◌<◌, ◌≤◌, Bool, true, false, cond, ◌||◌, List, [], ◌∷◌, ◌++◌, map, filter, refl, sym, ap, ◌∙◌, subst, inl, inr, true≢false, arith}
 use Rattle.std.specs.List.{flat_map, list_any}
 use Rattle.sp_rect.specs.declared.operation.Op.{Op}
 use Rattle.sp_rect.specs.Plane.{Rectangle}
 use Rattle.sp_locks.specs.declared.mode.Mode.{Mode}
-use Rattle.sp_locks.specs.declared.mode.Mode.TheVariants.{IX, S}
 use Rattle.sp_locks.specs.declared.row.Name.{Name}
 use Rattle.sp_locks.specs.declared.row.Name.TheVariants.{Granule as OnGranule, Object}
 use Rattle.sp_locks.specs.declared.row.Row.{Row}
 use Rattle.sp_locks.specs.declared.row.Duration.{Duration}
 use Rattle.sp_locks.specs.declared.row.Duration.TheVariants.{Commit}
 use Rattle.sp_locks.specs.declared.needs.Need.{Need}
-use Rattle.sp_locks.specs.Modes.{compatible, covers}
+use Rattle.sp_locks.specs.Modes.{compatible}
 use Rattle.sp_locks.specs.Rows.{is_held_by, same_name}
 use Rattle.sp_locks.specs.Table.{is_on, rows_on, row_of, lock_for, given, AreFree}
 use Rattle.sp_locks.specs.Soundness.{In, IsSound}
@@ -19,7 +18,7 @@ use Rattle.sp_locks.proofs.Keeping.{in-name}
 use Rattle.sp_locks.proofs.Names.{same_is}
 use Rattle.sp_node.specs.declared.node.Entry.{Entry}
 use Rattle.sp_node.specs.Among.{Among}
-use Rattle.sp_node.proofs.Among.{among_left, among_right, among_split, among_flat_map, from_flat_map}
+use Rattle.sp_node.proofs.Among.{among_left, among_split, among_flat_map, from_flat_map}
 use Rattle.sp_granule.specs.Granules.{Granule}
 use Rattle.sp_protection.specs.Holding.{Lock, HoldsMode, AllCompatible, AreGifts}
 use Rattle.sp_protection.specs.Reshape.{HasNumber}
@@ -29,8 +28,8 @@ use Rattle.sp_kernel.specs.declared.session.Session.{Session}
 use Rattle.sp_kernel.specs.State.{lock_of}
 use Rattle.sp_kernel.specs.Plans.{GiftWant, is_held}
 use Rattle.sp_kernel.specs.Soundness.{NamesUsed, SoundSessions, AwaitsObject}
-use Rattle.sp_kernel.proofs.Sessions.{among-kept, of_kept, one-session, number-same}
-use Rattle.sp_kernel.proofs.Holding.{in-among, among-in, of_held_by, to_held_by, MeetsRow, met-held, held-stays, given-stays}
+use Rattle.sp_kernel.proofs.Sessions.{among-kept, of_kept, one-session}
+use Rattle.sp_kernel.proofs.Holding.{among-in, of_held_by, to_held_by, MeetsRow, met-held, held-stays, given-stays}
 
 -- All locks that transactions hold, for the moment too.
 abbrev pub all_locks : List Session → List Row → List Lock

@@ -1,7 +1,6 @@
 -- An insertion: it leaves one list of granules, the entries with the new one, and few new numbers.
 use Rattle.std.proofs.Common.{◌≡◌, ◌≢◌, ◌⊎◌, ℕ, zero, suc, ◌+◌, ◌*◌, ◌<◌, ◌≤◌, Bool, true, false, cond, nat_eq, List, [], ◌∷◌, ◌++◌, map, length, Some, refl, sym, ap, ◌∙◌, subst, inl, inr, arith}
 use Rattle.std.specs.List.{flat_map, sum_by, AllByRecursion}
-use Rattle.std.proofs.lemmas.Bool.Decides.{nat_tests}
 use Rattle.std.proofs.lemmas.Int.{ints}
 use Rattle.std.proofs.lemmas.List.{append-nil, length-append, length-map}
 use Rattle.std.proofs.lemmas.List.Sums.{sum_by-append, sum_by-cons}
@@ -15,10 +14,9 @@ use Rattle.sp_node.specs.Nested.{Body, Branch, Place, places, entries, rects, re
 use Rattle.sp_node.specs.Table.{Table, IsShape, IsValid, body_at, level_of, places_of, entries_of}
 use Rattle.sp_node.proofs.Among.{among_split}
 use Rattle.sp_node.proofs.Lists.{all_unmap}
-use Rattle.sp_split.specs.Split.{Splits}
 use Rattle.sp_split.proofs.Unique.{one_split}
 use Rattle.sp_grow.specs.Below.{numbers}
-use Rattle.sp_grow.specs.Chosen.{IsBetter, IsAsGood, IsChosen}
+use Rattle.sp_grow.specs.Chosen.{IsBetter, IsAsGood}
 use Rattle.sp_grow.specs.Insertion.{Outcome, one, two, with_outcome, IsNode, Settles, Grows, here, below}
 use Rattle.sp_grow.specs.Members.{pick}
 use Rattle.sp_grow.specs.Grown.{IsGrown, IsRoot}
@@ -28,7 +26,12 @@ use Rattle.sp_grow.proofs.Counting.{Counted, entries_left, grows_numbers, grows_
 use Rattle.sp_granule.specs.Granules.{Granule, granule, granules}
 use Rattle.sp_protection.specs.Reshape.{HasNumber}
 use Rattle.sp_protection.proofs.Leaves.{among_map, from_map}
+use Rattle.sp_protection.specs.Replays.{SameMembers}
+use Rattle.sp_kernel.specs.Plans.{IsInserted}
 use Rattle.sp_kernel.proofs.Sessions.{number-same, number-tell}
+use Rattle.sp_kernel.proofs.Counting.{length-sum}
+use Rattle.sp_kernel.proofs.Dead.{distinct-cons}
+use Rattle.sp_kernel.proofs.Entering.{grown_only}
 
 -- What a sum over a list tells of its members.
 module _ {X : Type 0} (w : X → ℕ) where
@@ -296,3 +299,37 @@ few_levels t valid = go (level_of t) (body_at (look t.nodes) (level_of t) t.root
     go : (level : ℕ) (body : Body level) → AreSound t.shape level body → IsRootSize t.shape level (length body) → level ≤ length (entries level body)
     go zero body sound size = omega arith
     go (suc level) body sound size = let m = many_entries t.shape valid.shape.least (suc level) body sound size.0 in omega (arith, m)
+
+-- What stands in a tree after the insertion of an entry whose number it does not have.
+module _ (t : Table) (e : Entry) (t' : Table) (valid : IsValid t) (inserted : IsInserted t e t') (unused : (f : Entry) → Among f (entries_of t) → f.number ≢ e.number) where
+  pub entered_only : (f : Entry) → Among f (entries_of t') → (f ≡ e) ⊎ Among f (entries_of t)
+  entered_only = grown_only t e t' inserted.grown
+
+  pub entered_new : Among e (entries_of t')
+  entered_new = let g = grown_has t e t' valid.shape inserted.grown e (inl refl) in go g.0 g.1 g.2 (entered_only g.0 g.1)
+    where
+      go : (g : Entry) → Among g (entries_of t') → g.number ≡ e.number → (g ≡ e) ⊎ Among g (entries_of t) → Among e (entries_of t')
+      go g i n (inl same) = subst (λ (z : Entry). Among z (entries_of t')) same i
+      go g i n (inr old) = absurd (unused g old n)
+
+  pub entered_old : (f : Entry) → Among f (entries_of t) → Among f (entries_of t')
+  entered_old f i = let g = grown_has t e t' valid.shape inserted.grown f (inr i) in subst (λ (z : Entry). Among z (entries_of t')) (sym (inserted.same f g.0 i g.1 (sym g.2))) g.1
+
+  pub entered_members : (test : Entry → Bool) → SameMembers test (e ∷ entries_of t) (entries_of t')
+  entered_members test = record {
+    distinct = distinct-cons e.number (map (λ f. f.number) (entries_of t)) (λ i. let f = from_map (λ (z : Entry). z.number) e.number (entries_of t) i in unused f.0 f.1 f.2) valid.distinct_entries;
+    distinct_others = inserted.valid.distinct_entries;
+    there = λ f i h. there f i;
+    back = λ f i h. back f (entered_only f i);
+  }
+    where
+      there : (f : Entry) → Among f (e ∷ entries_of t) → Among f (entries_of t')
+      there f (inl same) = subst (λ (z : Entry). Among z (entries_of t')) (sym same) entered_new
+      there f (inr i) = entered_old f i
+
+      back : (f : Entry) → (f ≡ e) ⊎ Among f (entries_of t) → Among f (e ∷ entries_of t)
+      back f (inl same) = inl same
+      back f (inr i) = inr i
+
+  pub entered_length : length (entries_of t') ≡ length (entries_of t) + 1
+  entered_length = let a = length-sum (entries_of t') in let b = length-sum (entries_of t) in let c = grown_sum t e t' valid.shape inserted.grown (λ z. 1) in omega (arith, a, b, c)

@@ -35,3 +35,4 @@ pub mod Growing
 pub mod Giving
 pub mod Adding
 pub mod Applies
+pub mod Opened

@@ -1,15 +1,15 @@
 -- An operation that adds no entry keeps a kernel sound: it reads what it guards, and marks what it owns.
-use Rattle.std.proofs.Common.{◌≡◌, ◌≢◌, ◌⊎◌, ℕ, ◌+◌, ◌<◌, ◌≤◌, Bool, true, false, cond, not, ◌&&◌, ◌||◌, List, [], ◌∷◌, ◌++◌, map, length, None, nat_eq, refl, sym, ap, ◌∙◌, subst, inl, inr, true≢false, arith}
+use Rattle.std.proofs.Common.{◌≡◌, ◌≢◌, ◌⊎◌, ℕ, ◌<◌, ◌≤◌, Bool, true, false, cond, not, ◌&&◌, ◌||◌, List, [], ◌∷◌, ◌++◌, map, length, None, nat_eq, refl, sym, ap, ◌∙◌, subst, inl, inr, true≢false, arith}
 use Rattle.std.proofs.lemmas.Bool.Decides.{nat_tests}
 use Rattle.std.proofs.lemmas.List.{length-map}
-use Rattle.sp_rect.specs.Plane.{Rectangle}
-use Rattle.sp_rect.specs.Store.{Part, Id, Area, part_of, touches, within}
+use Rattle.sp_rect.specs.Store.{part_of, touches}
 use Rattle.sp_rect.specs.declared.operation.Op.{Op}
 use Rattle.sp_rect.specs.declared.operation.Op.TheVariants.{Put, Drop, Set, Get, Find, Fill, Clear}
 use Rattle.sp_rect.specs.declared.operation.Reply.{Reply}
 use Rattle.sp_locks.specs.declared.row.Row.{Row}
 use Rattle.sp_locks.specs.declared.row.Scope.TheVariants.{ShortLocks}
 use Rattle.sp_locks.specs.declared.needs.Need.{Need}
+use Rattle.sp_locks.specs.declared.row.Duration.TheVariants.{Commit}
 use Rattle.sp_locks.specs.Rows.{waiting_in}
 use Rattle.sp_locks.specs.Table.{released}
 use Rattle.sp_locks.proofs.Keeping.{release-sound}
@@ -23,8 +23,9 @@ use Rattle.sp_node.proofs.Changed.{valid_with, ascending_with, entries_of_with}
 use Rattle.sp_granule.specs.Granules.{Granule, granules, standing}
 use Rattle.sp_txn.specs.Visible.{is_visible, record_for, live, view}
 use Rattle.sp_protection.specs.Holding.{Lock, AllCompatible}
-use Rattle.sp_protection.specs.Guarding.{Guarded, Owned, MarksOwned}
-use Rattle.sp_protection.specs.Effects.{is_seen_in, is_marking, is_changed, marks_by, marked_by, fresh, entered, applied}
+use Rattle.sp_protection.specs.Guarding.{Owned, MarksOwned}
+use Rattle.sp_protection.specs.Effects.{is_marking, is_changed, marks_by, marked_by, fresh, applied}
+use Rattle.sp_protection.specs.Needs.{StayWant, AreNeedsOf}
 use Rattle.sp_protection.specs.Replays.{Replays, HoldsPart, HoldsParts, LeavesMarks}
 use Rattle.sp_protection.proofs.Applying.{applied-live, apply_replays, other_replays}
 use Rattle.sp_protection.proofs.Commits.{locks_leave_marks}
@@ -33,18 +34,18 @@ use Rattle.sp_protection.proofs.Marking.{marked-marked, operation_keeps_marks_ow
 use Rattle.sp_protection.proofs.Rules.{needs_guard, changed_owned}
 use Rattle.sp_kernel.specs.declared.session.Session.{Session}
 use Rattle.sp_kernel.specs.declared.session.Stage.{Stage}
-use Rattle.sp_kernel.specs.declared.session.Stage.TheVariants.{Idle, Planned}
-use Rattle.sp_kernel.specs.State.{Kernel, entries_in, is_active_stage, is_active, with_change, staged, locks_of}
+use Rattle.sp_kernel.specs.declared.session.Stage.TheVariants.{Planned}
+use Rattle.sp_kernel.specs.State.{Kernel, entries_in, is_active_stage, with_change, locks_of}
 use Rattle.sp_kernel.specs.Refusals.{is_search, under_way}
-use Rattle.sp_kernel.specs.Moves.{lengthened, finished, marked as marked_kernel}
-use Rattle.sp_kernel.specs.Plans.{adds, is_adding}
+use Rattle.sp_kernel.specs.Moves.{marked as marked_kernel}
+use Rattle.sp_kernel.specs.Plans.{is_adding}
 use Rattle.sp_kernel.specs.Stepped.{reply_of, PassesReplies, most_entries}
-use Rattle.sp_kernel.specs.Soundness.{RowsOwned, SharesLatch, AwaitsObject, HoldsStage, NumbersUsed, DeadListed, is_queued, Sound}
+use Rattle.sp_kernel.specs.Soundness.{SharesLatch, HoldsStage, NumbersUsed, DeadListed, is_queued, Sound}
 use Rattle.sp_kernel.proofs.Sessions.{number-same, number-differ}
 use Rattle.sp_kernel.proofs.Holding.{StayHeld, HoldsStill, met-held, released-others, released-short, locks-still, parts-still, part-still, marks_owned-still, locks-compatible}
 use Rattle.sp_kernel.proofs.Released.{released-owned, released-names, released-awaits_object}
 use Rattle.sp_kernel.proofs.Awake.{released-long}
-use Rattle.sp_kernel.proofs.Planned.{MarksChange, LeavesSight, granules_with, stage_with}
+use Rattle.sp_kernel.proofs.Planned.{LeavesSight, granules_with, stage_with}
 use Rattle.sp_kernel.proofs.Restaging.{there-changed}
 use Rattle.sp_kernel.proofs.Staging.{told}
 use Rattle.sp_kernel.proofs.Endings.{numbers-other}
@@ -147,9 +148,14 @@ module _ (k : Kernel) (x : Session) (op : Op) (sound : Sound k) (here : Among x 
   compatible : AllCompatible locks
   compatible = locks-compatible k.next_txn (length k.commits) k.sessions k.locks sound.sessions sound.locks
 
+  abbrev commit : List Need
+  commit = (ready k x op sound here at).1.commit
+
+  needs : AreNeedsOf (StayWant (granules k.tree) es t op) Commit commit
+  needs = stay_needs k x op commit (ready k x op sound here at).1.short plain (ready k x op sound here at).1.needs
+
   changes_owned : (e : Entry) → Among e es → is_changed t op e ≡ true → Owned (granules k.tree) locks t (standing e)
-  changes_owned e = changed_owned k.tree locks t op (ready k x op sound here at).1.commit e sound.valid (ready_space k x op sound here at)
-      (stay_needs k x op (ready k x op sound here at).1.commit (ready k x op sound here at).1.short plain (ready k x op sound here at).1.needs)
+  changes_owned e = changed_owned k.tree locks t op commit e sound.valid (ready_space k x op sound here at) needs
       (ready_commit k x op sound here at) (named_held locks t op (ready_object k x op sound here at))
 
   leaves_marks : (y : Session) → Among y k.sessions → y.txn.session ≢ s → LeavesMarks t y.txn.number op es
@@ -174,8 +180,7 @@ module _ (k : Kernel) (x : Session) (op : Op) (sound : Sound k) (here : Among x 
   gs = granules_with (marked_by t op) keeps k.tree
 
   part : HoldsPart (granules k.tree) locks t (part_of op)
-  part = part_held (granules k.tree) locks t op (ready_object k x op sound here at) (λ rect e. needs_guard k.tree es locks t op rect (ready k x op sound here at).1.commit e (ready_space k x op sound here at rect e)
-      (stay_needs k x op (ready k x op sound here at).1.commit (ready k x op sound here at).1.short plain (ready k x op sound here at).1.needs) (ready_commit k x op sound here at))
+  part = part_held (granules k.tree) locks t op (ready_object k x op sound here at) (λ rect e. needs_guard k.tree es locks t op rect commit e (ready_space k x op sound here at rect e) needs (ready_commit k x op sound here at))
 
   owned : MarksOwned (granules tree) (locks_of xs rows) (entries_of tree)
   owned =

@@ -1,12 +1,11 @@
 -- An operation is kept and over: what its transaction and the others are to hold afterwards for a sound kernel.
-use Rattle.std.proofs.Common.{◌≡◌, ◌≢◌, ◌⊎◌, ℕ, ◌+◌, ◌<◌, ◌≤◌, ◌^◌, Bool, true, false, cond, List, [], ◌∷◌, ◌++◌, map, filter, length, refl, sym, ap, ap₂, ◌∙◌, subst, inl, inr, true≢false, arith}
-use Rattle.std.specs.Prelude.{flat_map}
+use Rattle.std.proofs.Common.{◌≡◌, ◌≢◌, ◌⊎◌, ℕ, ◌+◌, ◌<◌, ◌≤◌, ◌^◌, Bool, true, false, cond, List, [], ◌∷◌, ◌++◌, filter, length, refl, sym, ap, ap₂, ◌∙◌, subst, inl, inr, true≢false, arith}
 use Rattle.std.specs.List.{sum_by}
 use Rattle.std.proofs.lemmas.List.{append-nil, length-append, append_assoc}
 use Rattle.std.proofs.lemmas.List.Sums.{sum_by_push}
 use Rattle.sp_rect.specs.Plane.{Rectangle}
 use Rattle.sp_rect.specs.Serial.{after_all}
-use Rattle.sp_rect.specs.Store.{Part, Area, part_of}
+use Rattle.sp_rect.specs.Store.{part_of}
 use Rattle.sp_rect.specs.declared.operation.Op.{Op}
 use Rattle.sp_rect.specs.declared.operation.Reply.{Reply}
 use Rattle.sp_rect.specs.declared.operation.Answered.{Answered}
@@ -25,19 +24,18 @@ use Rattle.sp_protection.specs.Guarding.{MarksOwned}
 use Rattle.sp_protection.specs.Replays.{Replays, HoldsPart, HoldsParts, HasRectangles}
 use Rattle.sp_protection.proofs.Leaves.{among_map}
 use Rattle.sp_kernel.specs.declared.session.Session.{Session}
-use Rattle.sp_kernel.specs.declared.session.Stage.{Stage}
-use Rattle.sp_kernel.specs.declared.session.Stage.TheVariants.{Idle, Started, NameWait, Named, NeedWait, Planned, Queued, Placed}
-use Rattle.sp_kernel.specs.State.{Kernel, entries_in, is_active, is_active_stage, is_session, with_change, at_stage, staged, area_of, searched, locks_of}
+use Rattle.sp_kernel.specs.declared.session.Stage.TheVariants.{Idle}
+use Rattle.sp_kernel.specs.State.{Kernel, entries_in, is_active, is_session, with_change, at_stage, staged, area_of, searched, locks_of}
 use Rattle.sp_kernel.specs.Refusals.{under_way, open_transactions, open_operations, kept_operations, most_transactions, most_endings, most_operations, most_history, first_unused}
 use Rattle.sp_kernel.specs.Moves.{lengthened}
 use Rattle.sp_kernel.specs.Plans.{HasRectangle}
 use Rattle.sp_kernel.specs.Stepped.{records_in, records_told, kept_records, most_entries, most_records_told}
-use Rattle.sp_kernel.specs.Soundness.{RowsOwned, NamesUsed, SharesLatch, LatchShared, HoldsObject, HoldsStage, OfStage, NumbersUsed, DeadListed, is_queued, QueueSound, WithinCounts, Sound}
-use Rattle.sp_kernel.proofs.Sessions.{Fate, Changes, Stays, fate, of_change, others-among, one-session, number-same, number-tell}
-use Rattle.sp_kernel.proofs.Holding.{StayHeld, object-stays, HoldsStill, locks-still}
-use Rattle.sp_kernel.proofs.Counting.{share, change-sum, length-sum}
+use Rattle.sp_kernel.specs.Soundness.{RowsOwned, NamesUsed, SharesLatch, LatchShared, HoldsObject, HoldsStage, OfStage, NumbersUsed, DeadListed, is_queued, QueueSound, Sound}
+use Rattle.sp_kernel.proofs.Sessions.{Fate, Changes, Stays, fate, of_change, others-among, one-session}
+use Rattle.sp_kernel.proofs.Holding.{StayHeld, object-stays}
+use Rattle.sp_kernel.proofs.Counting.{change-sum, length-sum}
 use Rattle.sp_kernel.proofs.Limits.{share-active}
-use Rattle.sp_kernel.proofs.Restaging.{KeepsTxn, sessions-changed, there-changed}
+use Rattle.sp_kernel.proofs.Restaging.{KeepsTxn, sessions-changed}
 use Rattle.sp_kernel.proofs.Finishing.{shares-idle}
 
 -- the session with the operation kept, and idle

@@ -1,10 +1,10 @@
 -- A planned operation with nothing left to ask holds what it needs.
-use Rattle.std.proofs.Common.{◌≡◌, ◌≢◌, ◌⊎◌, ℕ, ◌+◌, ◌<◌, ◌≤◌, Bool, true, false, ◌&&◌, List, [], ◌∷◌, Some, None, nat_eq, nat_lt, refl, sym, ap, ◌∙◌, subst, inl, inr, true≢false, arith}
+use Rattle.std.proofs.Common.{◌≡◌, ◌⊎◌, ℕ, ◌+◌, ◌<◌, ◌≤◌, Bool, true, false, List, [], ◌∷◌, Some, nat_eq, nat_lt, refl, sym, ◌∙◌, subst, inl, inr, true≢false, arith}
 use Rattle.std.proofs.lemmas.Bool.Decides.{nat_tests}
 use Rattle.sp_list.specs.Emptiness.{is_empty}
 use Rattle.sp_rect.specs.Plane.{Rectangle}
 use Rattle.sp_rect.specs.declared.record.Record.{Record}
-use Rattle.sp_rect.specs.Store.{Part, Id, Area, part_of, within}
+use Rattle.sp_rect.specs.Store.{Id, Area, part_of, within}
 use Rattle.sp_rect.specs.declared.operation.Op.{Op}
 use Rattle.sp_rect.specs.declared.operation.Op.TheVariants.{Put, Drop, Set, Get, Find, Fill, Clear}
 use Rattle.sp_rect.specs.declared.operation.Reply.{Reply}
@@ -15,20 +15,18 @@ use Rattle.sp_locks.specs.declared.row.Name.TheVariants.{Object}
 use Rattle.sp_locks.specs.declared.row.Row.{Row}
 use Rattle.sp_locks.specs.declared.row.Duration.TheVariants.{Commit}
 use Rattle.sp_locks.specs.declared.needs.Need.{Need}
-use Rattle.sp_locks.specs.Rows.{is_short, waiting_in}
+use Rattle.sp_locks.specs.Rows.{is_short}
 use Rattle.sp_node.specs.Among.{Among}
-use Rattle.sp_node.specs.Table.{Table}
 use Rattle.sp_granule.specs.Granules.{Granule, granules}
 use Rattle.sp_protection.specs.Holding.{Lock, HoldsMode}
 use Rattle.sp_protection.specs.Guarding.{Guarded}
 use Rattle.sp_protection.specs.Effects.{entered}
-use Rattle.sp_protection.specs.Needs.{MarksId, StayWant, AreNeedsOf}
+use Rattle.sp_protection.specs.Needs.{StayWant, AreNeedsOf}
 use Rattle.sp_protection.specs.Replays.{HoldsPart}
 use Rattle.sp_protection.specs.Asking.{HoldsEach, HoldsNamed}
 use Rattle.sp_protection.proofs.Wanted.{holds_weaker}
 use Rattle.sp_kernel.specs.declared.session.Session.{Session}
-use Rattle.sp_kernel.specs.declared.session.Stage.{Stage}
-use Rattle.sp_kernel.specs.declared.session.Stage.TheVariants.{Idle, Planned}
+use Rattle.sp_kernel.specs.declared.session.Stage.TheVariants.{Planned}
 use Rattle.sp_kernel.specs.State.{Kernel, entries_in, with_change, locks_of}
 use Rattle.sp_kernel.specs.Plans.{object_of, HasRectangle, adds, is_adding, HasNeeds, Stays, Adds, is_held}
 use Rattle.sp_kernel.specs.Stepped.{records_in, most_records_told, kept_records, reply_of, PassesReplies}

@@ -1,14 +1,12 @@
 -- What an event that is not turned away makes of a kernel.
-use Rattle.std.specs.Prelude.{◌≡◌, ◌≢◌, ℕ, ◌+◌, Bool, true, false, ◌&&◌, not, nat_eq, nat_le, List, [], ◌∷◌, ◌++◌, map, filter, length, Option, Some, None, cond}
+use Rattle.std.specs.Prelude.{◌≡◌, ◌≢◌, ℕ, ◌+◌, true, false, not, nat_eq, nat_le, List, [], ◌∷◌, ◌++◌, map, filter, length, Option, Some, None, cond}
 use Rattle.std.specs.List.{list_any}
 use Rattle.sp_rect.specs.Store.{part_of, replied}
 use Rattle.sp_rect.specs.declared.operation.Op.{Op}
 use Rattle.sp_rect.specs.declared.operation.Reply.{Reply}
-use Rattle.sp_rect.specs.declared.operation.Answered.{Answered}
 use Rattle.sp_rect.specs.declared.commit.Commit.{Commit}
 use Rattle.sp_locks.specs.declared.mode.Mode.{Mode}
 use Rattle.sp_locks.specs.declared.row.Name.{Name}
-use Rattle.sp_locks.specs.declared.row.Row.{Row}
 use Rattle.sp_locks.specs.declared.row.Duration.{Duration}
 use Rattle.sp_locks.specs.declared.row.Scope.TheVariants.{ShortLocks, AllRows}
 use Rattle.sp_locks.specs.declared.needs.Need.{Need}
@@ -16,17 +14,16 @@ use Rattle.sp_locks.specs.Table.{blockers, row_of, with_row_on, released, given}
 use Rattle.sp_waits.specs.declared.edge.Edge.{Edge}
 use Rattle.sp_waits.specs.Cycles.{IsToldCycle}
 use Rattle.sp_node.specs.declared.node.Entry.{Entry}
-use Rattle.sp_node.specs.Change.{at_number, table_with}
+use Rattle.sp_node.specs.Change.{table_with}
 use Rattle.sp_node.specs.Marks.{is_done, settled, undone}
-use Rattle.sp_node.specs.Table.{Table, entries_of}
-use Rattle.sp_audit.specs.declared.ended.Ended.{Ended}
+use Rattle.sp_node.specs.Table.{Table}
 use Rattle.sp_event.specs.declared.answer.Answer.{Answer}
 use Rattle.sp_event.specs.declared.answer.Answer.TheVariants.{Granted, Waits, Deadlock}
 use Rattle.sp_txn.specs.Visible.{view}
 use Rattle.sp_protection.specs.Effects.{marked_by}
 use Rattle.sp_kernel.specs.declared.session.Session.{Session}
 use Rattle.sp_kernel.specs.declared.session.Stage.{Stage}
-use Rattle.sp_kernel.specs.declared.session.Stage.TheVariants.{Idle, Started, NameWait, Named, NeedWait, Planned, Queued, Placed}
+use Rattle.sp_kernel.specs.declared.session.Stage.TheVariants.{Idle, Placed}
 use Rattle.sp_kernel.specs.State.{Kernel, entries_in, session_at, sessions_without, with_session, with_change, staged, area_of}
 
 -- the numbers by ascending order

@@ -1,6 +1,6 @@
 -- What an operation needs in a kernel, and what a change of the tree leaves.
-use Rattle.std.specs.Prelude.{◌≡◌, ◌≢◌, ◌⊎◌, ℕ, ◌+◌, ◌<◌, ◌≤◌, ◌^◌, Bool, true, false, ◌&&◌, ◌||◌, not, nat_eq, List, [], ◌∷◌, ◌++◌, map, filter, length, Option, Some, None}
-use Rattle.std.specs.List.{list_any, sum_by}
+use Rattle.std.specs.Prelude.{◌≡◌, ℕ, Bool, true, false, ◌&&◌, not, List, [], ◌++◌, filter, Option, Some, None}
+use Rattle.std.specs.List.{list_any}
 use Rattle.sp_list.specs.Emptiness.{is_empty}
 use Rattle.sp_rect.specs.declared.record.Record.{Record}
 use Rattle.sp_rect.specs.declared.operation.Op.{Op}

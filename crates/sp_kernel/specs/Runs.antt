@@ -1,5 +1,5 @@
 -- Lists of events.
-use Rattle.std.specs.Prelude.{◌≡◌, ℕ, List, [], ◌∷◌, ◌++◌}
+use Rattle.std.specs.Prelude.{ℕ, List, [], ◌∷◌, ◌++◌}
 use Rattle.sp_node.specs.Table.{Table}
 use Rattle.sp_event.specs.declared.step.Step.{Step}
 use Rattle.sp_kernel.specs.State.{Kernel}

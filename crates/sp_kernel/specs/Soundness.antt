@@ -1,5 +1,5 @@
 -- What holds of a kernel between events. Each part speaks of the parts of a kernel that it names.
-use Rattle.std.specs.Prelude.{◌≡◌, ◌≢◌, ◌⊎◌, ℕ, ◌+◌, ◌<◌, ◌≤◌, ◌^◌, Bool, true, false, ◌&&◌, nat_eq, List, [], ◌∷◌, ◌++◌, map, filter, length, Option, Some, None}
+use Rattle.std.specs.Prelude.{◌≡◌, ◌≢◌, ◌⊎◌, ℕ, ◌+◌, ◌<◌, ◌≤◌, ◌^◌, Bool, true, false, ◌&&◌, nat_eq, List, [], ◌∷◌, ◌++◌, map, length, Some}
 use Rattle.std.specs.List.{AllByRecursion, IsDistinct, list_any}
 use Rattle.sp_rect.specs.Store.{IsOrdered}
 use Rattle.sp_rect.specs.Serial.{Serial, after_all}
@@ -9,10 +9,10 @@ use Rattle.sp_locks.specs.declared.mode.Mode.{Mode}
 use Rattle.sp_locks.specs.declared.row.Name.{Name}
 use Rattle.sp_locks.specs.declared.row.Name.TheVariants.{Granule as OnGranule}
 use Rattle.sp_locks.specs.declared.row.Row.{Row}
-use Rattle.sp_locks.specs.declared.row.Duration.TheVariants.{Commit, Short}
+use Rattle.sp_locks.specs.declared.row.Duration.TheVariants.{Commit}
 use Rattle.sp_locks.specs.declared.needs.Need.{Need}
 use Rattle.sp_locks.specs.Modes.{covers}
-use Rattle.sp_locks.specs.Rows.{is_lock_of, is_held_by, is_short, same_name}
+use Rattle.sp_locks.specs.Rows.{is_held_by, is_short, same_name}
 use Rattle.sp_locks.specs.Table.{row_of}
 use Rattle.sp_locks.specs.Soundness.{IsSound}
 use Rattle.sp_waits.specs.Edges.{NoCycle}
@@ -20,7 +20,7 @@ use Rattle.sp_node.specs.declared.node.Entry.{Entry}
 use Rattle.sp_node.specs.Among.{Among}
 use Rattle.sp_node.specs.Look.{IsAscending}
 use Rattle.sp_node.specs.Marks.{is_marked, is_made_by, is_ended_by, is_draft_of, is_done}
-use Rattle.sp_node.specs.Table.{Table, IsValid, entries_of}
+use Rattle.sp_node.specs.Table.{IsValid}
 use Rattle.sp_granule.specs.Granules.{granules}
 use Rattle.sp_txn.specs.Visible.{live}
 use Rattle.sp_protection.specs.Guarding.{MarksOwned}
@@ -28,7 +28,7 @@ use Rattle.sp_protection.specs.Needs.{AreInOrder}
 use Rattle.sp_protection.specs.Replays.{Replays, HoldsParts, HasRectangles}
 use Rattle.sp_kernel.specs.declared.session.Session.{Session}
 use Rattle.sp_kernel.specs.declared.session.Stage.{Stage}
-use Rattle.sp_kernel.specs.declared.session.Stage.TheVariants.{Idle, Started, NameWait, Named, NeedWait, Planned, Queued, Placed}
+use Rattle.sp_kernel.specs.declared.session.Stage.TheVariants.{Started, NameWait, Named, NeedWait, Planned, Queued, Placed}
 use Rattle.sp_kernel.specs.State.{Kernel, entries_in, is_active, searched, locks_of}
 use Rattle.sp_kernel.specs.Refusals.{is_search, under_way, open_transactions, open_operations, kept_operations, most_transactions, most_endings, most_operations, most_history, first_unused}
 use Rattle.sp_kernel.specs.Plans.{object_of, HasRectangle, HasNeeds, is_held, is_covered}

@@ -1,5 +1,5 @@
 -- The state of a kernel, as its contracts see it.
-use Rattle.std.specs.Prelude.{ℕ, Bool, true, false, ◌&&◌, not, nat_eq, nat_lt, List, [], ◌∷◌, map, filter, flat_map, Option, Some, None, cond}
+use Rattle.std.specs.Prelude.{ℕ, Bool, true, false, not, nat_eq, nat_lt, List, [], ◌∷◌, map, filter, flat_map, Option, Some, None, cond}
 use Rattle.sp_rect.specs.Plane.{Rectangle}
 use Rattle.sp_rect.specs.Store.{Part, Id, Area, part_of}
 use Rattle.sp_rect.specs.declared.record.Record.{Record}
@@ -14,7 +14,7 @@ use Rattle.sp_audit.specs.declared.ended.Ended.{Ended}
 use Rattle.sp_protection.specs.Holding.{Lock}
 use Rattle.sp_kernel.specs.declared.session.Session.{Session}
 use Rattle.sp_kernel.specs.declared.session.Stage.{Stage}
-use Rattle.sp_kernel.specs.declared.session.Stage.TheVariants.{Idle, Started, NameWait, Named, NeedWait, Planned, Queued, Placed}
+use Rattle.sp_kernel.specs.declared.session.Stage.TheVariants.{Placed}
 
 -- The tree with its marked entries, the next numbers, the lock rows, the sessions that have a transaction by ascending number, the dead entries in the order in which they are to be removed, the sessions whose commits wait for the next batch and those of the batch in flight, the calls that were made for it, the audit, and the offset of a fault.
 pub record Kernel : Type 0 where

@@ -1,6 +1,6 @@
 -- One event with its answer: the answer is the first whose condition holds, and the kernel after it is what the
 -- answer leaves.
-use Rattle.std.specs.Prelude.{◌≡◌, ◌≢◌, ◌⊎◌, ℕ, ◌+◌, ◌<◌, ◌≤◌, Bool, true, false, ◌&&◌, ◌||◌, not, nat_eq, nat_le, List, [], ◌∷◌, ◌++◌, map, filter, length, Option, Some, None, cond}
+use Rattle.std.specs.Prelude.{◌≡◌, ◌≢◌, ◌⊎◌, ℕ, ◌+◌, ◌<◌, ◌≤◌, Bool, true, false, ◌&&◌, not, nat_eq, List, [], ◌∷◌, ◌++◌, filter, length, Some, None, cond}
 use Rattle.std.specs.List.{list_any, sum_by}
 use Rattle.sp_rect.specs.declared.record.Record.{Record}
 use Rattle.sp_rect.specs.declared.commit.Commit.{Commit}
@@ -16,7 +16,6 @@ use Rattle.sp_locks.specs.declared.row.Name.TheVariants.{Granule as OnGranule}
 use Rattle.sp_locks.specs.declared.row.Row.{Row}
 use Rattle.sp_locks.specs.declared.row.Duration.TheVariants.{Commit as ToTheEnd, Short}
 use Rattle.sp_locks.specs.declared.needs.Need.{Need}
-use Rattle.sp_locks.specs.Modes.{compatible}
 use Rattle.sp_locks.specs.Table.{held}
 use Rattle.sp_locks.specs.Blocking.{is_compatible_with}
 use Rattle.sp_node.specs.declared.node.Entry.{Entry}
@@ -30,10 +29,8 @@ use Rattle.sp_event.specs.declared.event.Event.{Event}
 use Rattle.sp_event.specs.declared.event.Event.TheVariants.{Begin, Start, Name, Plan, Ask, Apply, Commit as AskCommit, Flush, Rollback, Clean}
 use Rattle.sp_event.specs.declared.answer.Answer.{Answer}
 use Rattle.sp_event.specs.declared.answer.Answer.TheVariants.{Began, Started as IsStarted, Granted, Planned as IsPlanned, Reply, Committed, Queued as IsQueued, RolledBack, Full, Wrote, Durable, Nothing, Removed, Later}
-use Rattle.sp_event.specs.declared.answer.Kind.{Kind}
 use Rattle.sp_event.specs.declared.answer.Kind.TheVariants.{Entries, Numbers, Replies}
 use Rattle.sp_kernel.specs.declared.session.Session.{Session}
-use Rattle.sp_kernel.specs.declared.session.Stage.{Stage}
 use Rattle.sp_kernel.specs.declared.session.Stage.TheVariants.{Idle, Started, NameWait, Named, NeedWait, Planned, Queued, Placed}
 use Rattle.sp_kernel.specs.State.{Kernel, entries_in, is_active, session_at, sessions_without}
 use Rattle.sp_kernel.specs.Refusals.{first_unused, turned_away}

@@ -3,6 +3,7 @@
 
 mod ending;
 mod events;
+mod opening;
 mod operations;
 mod requests;
 mod session;
@@ -12,6 +13,7 @@ pub use ending::{
     placed_sessions_are_told_their_places, removals_keep_sound, rollbacks_keep_sound,
 };
 pub use events::{every_event_keeps_sound, every_run_is_serial};
+pub use opening::opened_is_sound;
 pub use operations::operations_keep_sound;
 pub use requests::{begins_keep_sound, plans_keep_sound, requests_keep_sound};
 pub use session::{Session, Stage};
