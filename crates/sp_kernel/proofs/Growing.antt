@@ -129,8 +129,8 @@ module _ (shape : Shape) (v : IsShape shape) where
   one_grows e level number next es o n o' n' (here g) (here h) = one_settles zero number next (es ++ e ∷ []) o n o' n' g h
   one_grows e (suc level) number next branches o n o' n' (below front b back under mid split chosen grows settles) (below front' b' back' under' mid' split' chosen' grows' settles') =
       let c = one_way e.rect front b back front' b' back' (sym split ∙ split')
-          (all_unmap (λ a. IsBetter e.rect b.rect a) (rect_of (suc level)) front chosen.0) (all_unmap (λ a. IsAsGood e.rect b.rect a) (rect_of (suc level)) back chosen.1)
-          (all_unmap (λ a. IsBetter e.rect b'.rect a) (rect_of (suc level)) front' chosen'.0) (all_unmap (λ a. IsAsGood e.rect b'.rect a) (rect_of (suc level)) back' chosen'.1) in
+      (all_unmap (λ a. IsBetter e.rect b.rect a) (rect_of (suc level)) front chosen.0) (all_unmap (λ a. IsAsGood e.rect b.rect a) (rect_of (suc level)) back chosen.1)
+      (all_unmap (λ a. IsBetter e.rect b'.rect a) (rect_of (suc level)) front' chosen'.0) (all_unmap (λ a. IsAsGood e.rect b'.rect a) (rect_of (suc level)) back' chosen'.1) in
       let lower = one_grows e level b.number next b.body under mid under' mid' grows (subst (λ (x : Branch (Body level)). Grows shape 0 e level x.number next x.body under' mid') (sym c.1) grows') in
       one_settles (suc level) number mid (with_outcome front under back) o n o' n' settles
       (subst (λ (m : ℕ). Settles shape (suc level) number m (with_outcome front under back) o' n') (sym lower.1)

@@ -36,3 +36,4 @@ pub mod Giving
 pub mod Adding
 pub mod Applies
 pub mod Opened
+pub mod Bases

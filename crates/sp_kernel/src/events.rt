@@ -1,7 +1,11 @@
 // Laws of all events, and of all lists of events.
-ghost use Rattle.std.specs.Prelude.{◌≡◌, IsTrue, List};
+ghost use Rattle.std.specs.Prelude.{◌≡◌, ◌≤◌, IsTrue, List, length};
 ghost use Rattle.sp_rect.specs.Plane.{Point as AnyPoint, holds, whole};
+ghost use Rattle.sp_rect.specs.declared.record.Record.{Record as AnyRecord};
+ghost use Rattle.sp_rect.specs.Store.{IsOrdered};
 ghost use Rattle.sp_rect.specs.Serial.{Serial, after_all};
+ghost use Rattle.sp_node.specs.declared.node.Shape.{Shape as AnyShape};
+ghost use Rattle.sp_node.specs.Table.{IsShape};
 ghost use Rattle.sp_waits.specs.Edges.{NoCycle};
 ghost use Rattle.sp_granule.specs.Granules.{granules, HasPoint};
 ghost use Rattle.sp_granule.specs.Descent.{granule_of};
@@ -11,7 +15,8 @@ ghost use Rattle.sp_event.specs.declared.answer.Answer.{Answer as AnyAnswer};
 ghost use Rattle.sp_event.specs.declared.step.Step.{Step as AnyStep};
 ghost use Rattle.sp_kernel.specs.State.{Kernel, entries_in};
 ghost use Rattle.sp_kernel.specs.Removal.{IsTakenOut};
-ghost use Rattle.sp_kernel.specs.Stepped.{Stepped};
+ghost use Rattle.sp_kernel.specs.Opening.{IsOpened};
+ghost use Rattle.sp_kernel.specs.Stepped.{Stepped, most_entries};
 ghost use Rattle.sp_kernel.specs.Runs.{Runs};
 ghost use Rattle.sp_kernel.specs.Soundness.{Sound};
 
@@ -22,10 +27,14 @@ pub fn every_event_keeps_sound()
     ensures run { (k : Kernel) (steps : List AnyStep) (last : Kernel) → Sound k → Runs IsTakenOut k steps last → Sound last }
 {}
 
-/// A law: over every list of events from a sound kernel, the commits, run one at a time in order of place
-/// on the records at opening, give exactly the replies that were told, and leave what is live; every point
-/// of space lies in a granule; and no sessions wait for each other in a circle.
+/// A law: over every list of events from the kernel that opening gives, the commits, run one at a time in
+/// order of place on the records at opening, give exactly the replies that were told, and leave what is
+/// live. So they do from every sound kernel; and then every point of space lies in a granule, and no
+/// sessions wait for each other in a circle.
 pub fn every_run_is_serial()
+    ensures opened { (shape : AnyShape) (records : List AnyRecord) (k : Kernel) (steps : List AnyStep) (last : Kernel)
+        → IsShape shape → IsOrdered records → length records ≤ most_entries → IsOpened shape records k → Runs IsTakenOut k steps last
+        → Serial records last.commits × (live (entries_in last) ≡ after_all records last.commits) }
     ensures serial { (k : Kernel) (steps : List AnyStep) (last : Kernel) → Sound k → Runs IsTakenOut k steps last
         → Serial last.base last.commits }
     ensures current { (k : Kernel) (steps : List AnyStep) (last : Kernel) → Sound k → Runs IsTakenOut k steps last
