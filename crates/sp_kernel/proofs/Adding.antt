@@ -415,7 +415,7 @@ module _ (k : Kernel) (x : Session) (r : Record) (after : Table) (chosen : ℕ) 
   alone : (y : Session) (op : Op) (left : List Need) → Among y k.sessions → y.txn.session ≢ s → y.stage ≡ Planned op left → ⊥
   alone y op left i other planned =
       let shares : SharesLatch (Planned (Put r) []) (Planned op left) =
-          subst (λ (z : Stage). SharesLatch z (Planned op left)) at (subst (λ (z : Stage). SharesLatch x.stage z) planned (sound.latch x y here i (λ h. other (sym h)))) in
+      subst (λ (z : Stage). SharesLatch z (Planned op left)) at (subst (λ (z : Stage). SharesLatch x.stage z) planned (sound.latch x y here i (λ h. other (sym h)))) in
       true≢false (sym shares.0)
 
   stages : (y : Session) → Among y k.sessions → y.txn.session ≢ s → HoldsStage k' y y.stage

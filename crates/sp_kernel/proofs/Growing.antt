@@ -128,8 +128,8 @@ module _ (shape : Shape) (v : IsShape shape) where
   one_grows zero number next es e o n o' n' g h = one_settles zero number next (es ++ e ∷ []) o n o' n' g h
   one_grows (suc level) number next branches e o n o' n' g h =
       let c = one_way e.rect g.0 g.1 g.2 h.0 h.1 h.2 (sym g.5 ∙ h.5)
-          (all_unmap (λ a. IsBetter e.rect g.1.rect a) (rect_of (suc level)) g.0 g.6.0) (all_unmap (λ a. IsAsGood e.rect g.1.rect a) (rect_of (suc level)) g.2 g.6.1)
-          (all_unmap (λ a. IsBetter e.rect h.1.rect a) (rect_of (suc level)) h.0 h.6.0) (all_unmap (λ a. IsAsGood e.rect h.1.rect a) (rect_of (suc level)) h.2 h.6.1) in
+      (all_unmap (λ a. IsBetter e.rect g.1.rect a) (rect_of (suc level)) g.0 g.6.0) (all_unmap (λ a. IsAsGood e.rect g.1.rect a) (rect_of (suc level)) g.2 g.6.1)
+      (all_unmap (λ a. IsBetter e.rect h.1.rect a) (rect_of (suc level)) h.0 h.6.0) (all_unmap (λ a. IsAsGood e.rect h.1.rect a) (rect_of (suc level)) h.2 h.6.1) in
       let below = one_grows level g.1.number next g.1.body e g.3 g.4 h.3 h.4 g.7 (subst (λ (b : Branch (Body level)). Grows shape level b.number next b.body e h.3 h.4) (sym c.1) h.7) in
       one_settles (suc level) number g.4 (with_outcome g.0 g.3 g.2) o n o' n' g.8
       (subst (λ (m : ℕ). Settles shape (suc level) number m (with_outcome g.0 g.3 g.2) o' n') (sym below.1)
