@@ -1,9 +1,10 @@
 -- Every event keeps a kernel sound, and so does every run.
-use Rattle.std.proofs.Common.{◌≡◌, ℕ, List, None, subst}
+use Rattle.std.proofs.Common.{◌≡◌, ℕ, ◌≤◌, List, length, None, subst}
 use Rattle.sp_rect.specs.declared.record.Record.{Record}
 use Rattle.sp_node.specs.declared.node.Shape.{Shape}
 use Rattle.sp_node.specs.Among.{Among}
-use Rattle.sp_node.specs.Table.{Table}
+use Rattle.sp_rect.specs.Store.{IsOrdered}
+use Rattle.sp_node.specs.Table.{Table, IsShape}
 use Rattle.sp_event.specs.declared.event.Event.{Event}
 use Rattle.sp_event.specs.declared.event.Event.TheVariants.{Begin, Start, Name, Plan, Ask, Apply, Commit as AskCommit, Flush, Rollback, Clean}
 use Rattle.sp_event.specs.declared.answer.Answer.{Answer}
@@ -15,11 +16,12 @@ use Rattle.sp_kernel.specs.Removal.{RemovesOne}
 use Rattle.sp_kernel.specs.Places.{HasPlaces}
 use Rattle.sp_kernel.specs.Unmarked.{IsDeadUntouched}
 use Rattle.sp_kernel.specs.Runs.{Runs}
-use Rattle.sp_kernel.specs.Stepped.{Does, Stepped}
+use Rattle.sp_kernel.specs.Stepped.{Does, Stepped, most_entries}
 use Rattle.sp_kernel.specs.Soundness.{Sound}
 use Rattle.sp_kernel.proofs.Applies.{apply_keeps}
 use Rattle.sp_kernel.proofs.Dying.{does_untouched}
 use Rattle.sp_kernel.proofs.Ends.{commit_keeps, rollback_keeps, flush_keeps, clean_keeps}
+use Rattle.sp_kernel.proofs.Opened.{opened-sound}
 use Rattle.sp_kernel.proofs.Starts.{begin_keeps, start_keeps, name_keeps, plan_keeps, ask_keeps}
 
 module _ (IsRemoved : Table → ℕ → Table → Type 0) where
@@ -44,6 +46,10 @@ module _ (IsRemoved : Table → ℕ → Table → Type 0) where
     pub runs_keep : (k : Kernel) (steps : List Step) (last : Kernel) → Sound k → Runs IsRemoved k steps last → Sound last
     runs_keep k _ _ sound Runs.Stays = sound
     runs_keep k _ last sound (Runs.Goes between steps step runs stepped) = stepped_keeps between step.event step.answer last (runs_keep k steps between sound runs) stepped
+
+    -- whatever happens after opening leaves a sound kernel
+    pub opened_runs_sound : (shape : Shape) (records : List Record) (first : Kernel) (steps : List Step) (last : Kernel) → IsShape shape → IsOrdered records → length records ≤ most_entries → IsOpened shape records first → Runs IsRemoved first steps last → Sound last
+    opened_runs_sound shape records first steps last v ordered few opened = runs_keep first steps last (opened-sound shape records first v ordered few opened)
 
     -- nothing of an active transaction comes onto a dead entry
     pub stepped_untouched : (k : Kernel) (event : Event) (answer : Answer) (after : Kernel) → Sound k → IsDeadUntouched k → Stepped IsRemoved k event answer after → IsDeadUntouched after
