@@ -1,9 +1,10 @@
 //! The program that bench/needs times: it grows a tree, and then makes the plans of many insertions into it,
-//! with the short locks that each wants or without. It reads no clock; the script times it as a whole.
+//! with the locks that each wants, for the moment or to the end, or without. It reads no clock; the script times it as a whole.
 #![tactic(auto)]
 
 mod plans;
 
+use crate::plans::Wanted;
 use std::env;
 use std::process::ExitCode;
 
@@ -26,7 +27,12 @@ fn main(rt: HostRuntime) -> ExitCode {
             let (Ok(entries), Ok(plans)) = (entries.parse::<u32>(), plans.parse::<u32>()) else {
                 return ExitCode::from(NO_WORK);
             };
-            match plans::run(rt.alloc(), entries, plans, kind.as_str() == "needs") {
+            let wanted = match kind.as_str() {
+                "needs" => Wanted::ShortNeeds,
+                "commit" => Wanted::CommitNeeds,
+                _ => Wanted::Plan,
+            };
+            match plans::run(rt.alloc(), entries, plans, wanted) {
                 Ok(counted) => match println!(rt; "{counted}") {
                     Ok(()) => ExitCode::SUCCESS,
                     Err(_) => ExitCode::from(NO_WORK),

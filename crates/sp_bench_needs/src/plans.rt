@@ -1,11 +1,12 @@
-// Insertions into a tree of small squares, their plans, and the short locks that they want.
+// Insertions into a tree of small squares, their plans, and the locks that they want.
 ghost use Rattle.std.specs.Prelude.{◌<◌, ◌^◌, IfOk};
 ghost use Rattle.sp_node.specs.Plan.{IsMadeOf};
 
 use sp_grow::{choose_leaf, grow};
 use sp_needs::short_needs;
 use sp_node::{Draft, Ended, Entry, Made, Marks, Plan, Shape, Tree};
-use sp_rect::{Rect, Value};
+use sp_ops::commit_needs;
+use sp_rect::{Op, Record, Records2, Rect, Value};
 use std::alloc::{AllocError, Global};
 
 const SIZE: i64 = 50;
@@ -36,9 +37,20 @@ impl Numbers {
     }
 }
 
-/// Inserts so many small squares, makes the plans of so many more, one at a time, and where that is asked the
-/// short needs of each. Counts the parts of the plans, or the needs.
-pub fn run(alloc: Global, entries: u32, plans: u32, wants_needs: bool) -> Result<u64, AllocError> {
+/// What is computed of each insertion, beside its plan.
+#[derive(Clone, Copy)]
+pub enum Wanted {
+    /// Nothing.
+    Plan,
+    /// The locks for the moment of the change.
+    ShortNeeds,
+    /// The locks to the end of a transaction that searched where it puts.
+    CommitNeeds,
+}
+
+/// Inserts so many small squares, makes the plans of so many more, one at a time, and of each what is
+/// wanted. Counts the parts of the plans, or the needs.
+pub fn run(alloc: Global, entries: u32, plans: u32, wanted: Wanted) -> Result<u64, AllocError> {
     let mut tree = Tree::new(alloc, Shape { max: 16, min: 6 })?;
     let mut numbers = Numbers { state: 1 };
     let side = side_for(entries);
@@ -51,7 +63,7 @@ pub fn run(alloc: Global, entries: u32, plans: u32, wants_needs: bool) -> Result
     let mut counted: u64 = 0;
     for _ in 0..plans {
         let rect = numbers.square(side)?;
-        let count = count_of(alloc, &tree, u64::from(entries), rect, wants_needs)?;
+        let count = count_of(alloc, &tree, u64::from(entries), rect, wanted)?;
         counted = counted.saturating_add(count);
     }
     Ok(counted)
@@ -68,20 +80,47 @@ fn side_for(count: u32) -> u64 {
     root.saturating_mul(100)
 }
 
-// The parts of the plan, or its short needs.
+// The parts of the plan, or its needs.
 fn count_of(
     alloc: Global,
     tree: &Tree,
     number: u64,
     rect: Rect,
-    wants_needs: bool,
+    wanted: Wanted,
 ) -> Result<u64, AllocError> {
     let plan = plan_of(alloc, tree, number, rect)?;
-    if !wants_needs {
-        return Ok(plan.parts.len() as u64);
+    match wanted {
+        Wanted::Plan => Ok(plan.parts.len() as u64),
+        Wanted::ShortNeeds => {
+            let chosen = choose_leaf(tree, &rect);
+            let needs = short_needs(alloc, tree, &plan, Some(chosen))?;
+            Ok(needs.len() as u64)
+        }
+        Wanted::CommitNeeds => commit_count(alloc, tree, &plan, number, rect),
     }
-    let chosen = choose_leaf(tree, &rect);
-    let needs = short_needs(alloc, tree, &plan, Some(chosen))?;
+}
+
+// The locks to the end of a put, by a transaction that searched its rectangle before.
+fn commit_count(
+    alloc: Global,
+    tree: &Tree,
+    plan: &Plan,
+    number: u64,
+    rect: Rect,
+) -> Result<u64, AllocError>
+    requires { IsMadeOf tree.now.table plan.now }
+{
+    let Ok(value) = Value::new(alloc, b"parcel") else {
+        return Err(AllocError);
+    };
+    let op = Op::Put(Record {
+        id: number,
+        rect,
+        value,
+    });
+    let mut searches = Records2::new(alloc);
+    searches.push(rect)?;
+    let needs = commit_needs(alloc, tree, Some(plan), &op, 1, &searches)?;
     Ok(needs.len() as u64)
 }
 
