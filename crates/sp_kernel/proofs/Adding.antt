@@ -496,7 +496,10 @@ module _ (k : Kernel) (x : Session) (r : Record) (after : Table) (chosen : ℕ) 
   entries = go (nat_le most_entries (length es)) refl
     where
       go : (b : Bool) → nat_le most_entries (length es) ≡ b → length (entries_of after) ≤ most_entries
-      go true h = absurd (few (grind (arith, nat_tests)))
+      go true h = absurd (few (at_least most_entries (length es) h))
+        where
+          at_least : (a b : ℕ) → nat_le a b ≡ true → a ≤ b
+          at_least a b h = grind (arith, nat_tests)
       go false h = let l : length es < most_entries = grind (arith, nat_tests) in let m = one_more in omega (arith, l, m)
 
   next_few : k.next_entry + 1 ≤ first_unused
