@@ -168,9 +168,24 @@ fn entries_that_are_not_seen(rt: HostRuntime) -> Result<(), Fail> {
     ];
     assert!(rt; are(&commit_needs(alloc, &tree, None, &fill, 7, &none)?, &all));
     let leaf = [(Name::Granule(1), Mode::IX)];
-    assert!(rt; are(&commit_needs(alloc, &tree, None, &Op::Drop(1), 7, &none)?, &[]));
-    assert!(rt; are(&commit_needs(alloc, &tree, None, &Op::Drop(5), 7, &none)?, &[]));
-    assert!(rt; are(&commit_needs(alloc, &tree, None, &Op::Drop(5), 9, &none)?, &leaf));
+    assert!(rt;
+        are(
+            &commit_needs(alloc, &tree, None, &Op::Drop(1), 7, &none)?,
+            &[]
+        )
+    );
+    assert!(rt;
+        are(
+            &commit_needs(alloc, &tree, None, &Op::Drop(5), 7, &none)?,
+            &[]
+        )
+    );
+    assert!(rt;
+        are(
+            &commit_needs(alloc, &tree, None, &Op::Drop(5), 9, &none)?,
+            &leaf
+        )
+    );
     Ok(())
 }
 

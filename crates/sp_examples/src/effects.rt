@@ -82,14 +82,20 @@ fn ids_found(alloc: Global, tree: &Tree, txn: u64) -> Result<Vec<u64>, Fail> {
 fn own_drops_and_drafts_are_seen(rt: HostRuntime) -> Result<(), Fail> {
     let alloc = rt.alloc();
     let mut tree = tree_of(alloc, &RECTS)?;
-    assert_eq!(rt; ids_found(alloc, &tree, 7)?.as_slice(), [1, 2, 5].as_slice());
+    assert_eq!(rt;
+        ids_found(alloc, &tree, 7)?.as_slice(),
+        [1, 2, 5].as_slice()
+    );
     let drop = run(alloc, &mut tree, &Op::Drop(2), 7)?;
     assert!(rt; matches!(drop.0, Reply::Done) && drop.1 == 1);
     let set = Op::Set(1, value_of(alloc, b"draft")?);
     let set = run(alloc, &mut tree, &set, 7)?;
     assert!(rt; matches!(set.0, Reply::Done) && set.1 == 1);
     assert_eq!(rt; ids_found(alloc, &tree, 7)?.as_slice(), [1, 5].as_slice());
-    assert_eq!(rt; ids_found(alloc, &tree, 8)?.as_slice(), [1, 2, 5].as_slice());
+    assert_eq!(rt;
+        ids_found(alloc, &tree, 8)?.as_slice(),
+        [1, 2, 5].as_slice()
+    );
     assert!(rt; reads(alloc, &tree, 1, 7, b"draft")?);
     assert!(rt; reads(alloc, &tree, 1, 8, b"parcel")?);
     let again = run(alloc, &mut tree, &Op::Drop(2), 7)?;
