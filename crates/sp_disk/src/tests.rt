@@ -81,10 +81,10 @@ fn a_shelf_in_memory_hands_out_each_disk_once(rt: HostRuntime) -> Result<(), Fai
     Ok(())
 }
 
-// A path of a file that is not there yet.
+// The path of a file that is not there yet, in the folder where the tests run.
 fn new_path(rt: &HostRuntime) -> io::Result<String> {
     let number = RandomState::new(rt)?.hash_one(&0u8);
-    Ok(format!(in rt.alloc(); "/tmp/sp_disk-test-{number}")?)
+    Ok(format!(in rt.alloc(); "sp_disk-test-{number}")?)
 }
 
 #[test]
@@ -112,7 +112,7 @@ fn a_shelf_of_files_makes_what_is_missing(rt: HostRuntime) -> Result<(), Fail> {
     let mut shelf = FileShelf::new(rt, rt.alloc());
     shelf.fetch(path.as_str())?.write_at(0, b"abc")?;
     assert_eq!(rt; shelf.fetch(path.as_str())?.len()?, 3);
-    assert!(rt; shelf.fetch("/tmp/no-such-folder/file").is_err());
+    assert!(rt; shelf.fetch("no-such-folder/file").is_err());
     fs::remove_file(&rt, path.as_str())?;
     Ok(())
 }
