@@ -22,3 +22,4 @@ pub mod Noting
 pub mod NextMarked
 pub mod Sample
 pub mod Laws
+pub mod Counting

@@ -1,5 +1,5 @@
 // Trees.
-ghost use Rattle.std.specs.Prelude.{◌≡◌, OnOk, IfOk, MatchOption};
+ghost use Rattle.std.specs.Prelude.{◌≡◌, OnOk, IfOk, MatchOption, length};
 ghost use Rattle.std.specs.Option.{option_copied};
 ghost use Rattle.std.specs.List.{filter};
 ghost use Rattle.std.specs.List.Sorted.{IsPermutation, IsStrictlyIncreasing};
@@ -108,6 +108,13 @@ impl Tree {
     {
         self.nodes.rises();
         self.next
+    }
+
+    /// How many entries the tree has. Takes no memory, and costs nothing.
+    pub fn len(&self) -> usize
+        ensures { result ≡ length (entries_of self.now.table) }
+    {
+        self.leaves.len()
     }
 
     /// The node of this number, or None exactly where the tree lacks the number. Costs a binary search.
