@@ -141,6 +141,7 @@ module _ (e : Entry) (o : Overlay) (level : ℕ) (c : Child) (is : at_of o o.pla
         each = subst (AllByRecursion (λ f. Among f (entries_of o.before))) entries_is s.each;
         each_orphan = tt;
         room = omega (arith, s.room);
+        few = s.few;
       }
     where
       or_true : (x y : Bool) → y ≡ true → (x || y) ≡ true

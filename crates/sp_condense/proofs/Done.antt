@@ -1,5 +1,5 @@
 -- The plan of a removal.
-use Rattle.std.proofs.Common.{◌≡◌, ℕ, zero, suc, ◌+◌, ◌^◌, ◌<◌, inl, inr, Bool, true, false, ◌||◌, List, [], ◌∷◌, ◌++◌, length, map, Option, Some, None, is_some, refl, sym, ap, ◌∙◌, subst, arith}
+use Rattle.std.proofs.Common.{◌≡◌, ◌≢◌, ℕ, zero, suc, ◌+◌, ◌^◌, ◌<◌, inl, inr, Bool, true, false, ◌||◌, List, [], ◌∷◌, ◌++◌, length, map, Option, Some, None, is_some, refl, sym, ap, ◌∙◌, subst, arith}
 use Rattle.std.specs.Prelude.{nat_eq, cond, MatchOption}
 use Rattle.std.specs.List.{AllByRecursion, IsDistinct, flat_map}
 use Rattle.std.specs.List.Sorted.{IsPermutation}
@@ -7,8 +7,9 @@ use Rattle.std.proofs.lemmas.Bool.Decides.{nat_tests}
 use Rattle.std.proofs.lemmas.Cmp.{nat_eq_equiv}
 use Rattle.std.proofs.lemmas.List.{append-nil}
 use Rattle.std.proofs.lemmas.List.Folds.{list_any-append}
+use Rattle.std.proofs.lemmas.List.Sorted.{list_any-IsPermutation}
 use Rattle.std.proofs.lemmas.List.Sums.{sum_by-cons}
-use Rattle.std.proofs.lemmas.Map.Keys.{IsDistinct-tail, IsDistinct-IsPermutation}
+use Rattle.std.proofs.lemmas.Map.Keys.{IsDistinct-head, IsDistinct-tail, IsDistinct-IsPermutation}
 use Rattle.sp_rect.specs.Plane.{IsRectangle, whole}
 use Rattle.sp_node.specs.declared.node.Entry.{Entry}
 use Rattle.sp_node.specs.declared.node.Child.{Child}
@@ -24,10 +25,12 @@ use Rattle.sp_node.specs.Plan.{number_of, content, with_parts, AreOrdered, Diffe
 use Rattle.sp_node.specs.Table.{Table, body_at, Stands, IsInner, children_in, level_of, entries_of, IsValid, IsValidAt}
 use Rattle.sp_node.proofs.Lists.{all_imply}
 use Rattle.sp_node.proofs.Among.{all_among}
+use Rattle.sp_node.proofs.Entries.{has_from_among}
+use Rattle.sp_node.proofs.Standing.{has_is_any, entry_in_is, entry_in_some}
 use Rattle.sp_node.proofs.Adopt.{part_at, look_parts}
 use Rattle.sp_node.proofs.Level.{level_is, valid_at}
 use Rattle.sp_split.specs.Split.{is_among}
-use Rattle.sp_split.proofs.Members.{equal_from, same_members, permutation_from_sums}
+use Rattle.sp_split.proofs.Members.{equal_from, unequal_from, all_none, same_members, permutation_from_sums}
 use Rattle.sp_grow.specs.Below.{numbers, branch_at}
 use Rattle.sp_grow.specs.Nest.{nest}
 use Rattle.sp_grow.specs.Overlay.{Overlay}
@@ -36,7 +39,7 @@ use Rattle.sp_grow.proofs.Numbers.{numbers_places, all_front, all_back}
 use Rattle.sp_grow.proofs.Sums.{sum_map}
 use Rattle.sp_condense.specs.declared.orphans.Orphan.{Orphan as Found}
 use Rattle.sp_condense.specs.declared.rest.Rest.{Rest}
-use Rattle.sp_condense.specs.Removal.{Orphan, Inserts, IsNest, IsRemovedFrom, IsRemoved, collapsed}
+use Rattle.sp_condense.specs.Removal.{Orphan, Inserts, IsNest, IsRemovedFrom, IsRemoved, KeepsOthers, collapsed}
 use Rattle.sp_condense.specs.Taking.{AreFound, IsTaken}
 use Rattle.sp_condense.specs.Staging.{IsStage, all_numbers, at_of, Ready, nest_of, Goes, begun, IsEnd, SameMembers, Agrees, IsKeptIf, IsSettled, IsOutcome}
 use Rattle.sp_condense.proofs.Start.{own_parts, ready, left_is}
@@ -138,6 +141,16 @@ same_list all (x ∷ es) (f ∷ fs) d h k e =
 some_is : (a b : Node) → Some a ≡ Some b → a ≡ b
 some_is a b e = cc
 
+-- entries by their numbers
+numbered : (es : List Entry) (f : Entry) → Among f es → is_among (map (λ x. x.number) es) f.number ≡ true
+numbered es f i = sym (has_is_any es f.number) ∙ has_from_among f es i
+
+named : (es : List Entry) (k : ℕ) → is_among (map (λ x. x.number) es) k ≡ true → (f : Entry) × Among f es × (f.number ≡ k)
+named es k h =
+    let found = entry_in_some es k (has_is_any es k ∙ h) in
+    let is = entry_in_is es k found.0 found.1 in
+    (found.0, is.0, is.1)
+
 module _ (t : Table) (v : IsValid t) (rising : IsAscending t.nodes) (e : Entry) (ps qs : List Part) (root next level : ℕ) (ordered : AreOrdered ps) (settled : IsSettled t.nodes ps qs) (s : IsStage t e (look (with_parts t.nodes ps)) root next level []) (full : IsRootSize t.shape level (length (body_at (look (with_parts t.nodes ps)) level root))) where
   abbrev at : ℕ → Option Node
   at = look (with_parts t.nodes ps)
@@ -237,6 +250,40 @@ module _ (t : Table) (v : IsValid t) (rising : IsAscending t.nodes) (e : Entry) 
   pub left : IsPermutation (map (λ x. x.number) (entries_of t)) (e.number ∷ map (λ x. x.number) (entries_of tree))
   left = subst (λ (l : ℕ). IsPermutation (map (λ x. x.number) (entries_of t)) (e.number ∷ map (λ x. x.number) (entries l (body_at then l root)))) (sym level_then) moved
 
+  abbrev rest_numbers : List ℕ
+  rest_numbers = map (λ x. x.number) (entries level body)
+
+  apart : IsDistinct nat_eq (e.number ∷ rest_numbers)
+  apart = IsDistinct-IsPermutation nat_eq nat_eq_equiv.symm (map (λ x. x.number) (entries_of t)) (e.number ∷ rest_numbers) moved v.distinct_entries
+
+  -- the other entries, and no more, are there
+  back : (f : Entry) → Among f (entries level body) → Among f (entries_of t) × (f.number ≢ e.number)
+  back f i = (all_among (λ (g : Entry). Among g (entries_of t)) f (entries level body) s'.each i, other)
+    where
+      other : f.number ≡ e.number → ⊥
+      other same = clash (is_among rest_numbers e.number) (ap (is_among rest_numbers) (sym same) ∙ numbered (entries level body) f i) (all_none rest_numbers e.number (IsDistinct-head nat_eq e.number rest_numbers apart))
+        where
+          clash : (b : Bool) → b ≡ true → b ≡ false → ⊥
+          clash b x y = cc
+
+  still : (f : Entry) → Among f (entries_of t) → f.number ≢ e.number → Among f (entries level body)
+  still f i other =
+      let told = sym (list_any-IsPermutation (nat_eq f.number) (map (λ x. x.number) (entries_of t)) (e.number ∷ rest_numbers) moved) ∙ numbered (entries_of t) f i in
+      let later = sym (ap (λ (b : Bool). b || is_among rest_numbers f.number) (unequal_from f.number e.number other)) ∙ told in
+      let g = named (entries level body) f.number later in
+      let same = distinct_same (entries_of t) g.0 f v.distinct_entries (all_among (λ (x : Entry). Among x (entries_of t)) g.0 (entries level body) s'.each g.1) i g.2 in
+      subst (λ (x : Entry). Among x (entries level body)) same g.1
+
+  pub keeps : KeepsOthers t e.number tree
+  keeps = record {
+    valid = valid_at tree level valid;
+    ascending = rising_parts t.nodes qs rising;
+    onward = s.onward;
+    few = omega (arith, s.few);
+    back = subst (λ (l : ℕ). (f : Entry) → Among f (entries l (body_at then l root)) → Among f (entries_of t) × (f.number ≢ e.number)) (sym level_then) back;
+    there = subst (λ (l : ℕ). (f : Entry) → Among f (entries_of t) → f.number ≢ e.number → Among f (entries l (body_at then l root))) (sym level_then) still;
+  }
+
   pub body_then : body_at then level root ≡ body_at at level root
   body_then = ap (λ (f : ℕ → Option Node). body_at f level root) (sym then_is)
 
@@ -244,6 +291,7 @@ module _ (t : Table) (v : IsValid t) (rising : IsAscending t.nodes) (e : Entry) 
 pub record IsDone (t : Table) (number : ℕ) (plan : Plan) : Type 0 where
   pub made : IsMadeOf t plan
   pub removed : IsRemoved t number (planned t plan)
+  pub keeps : KeepsOthers t number (planned t plan)
   pub left : IsPermutation (map (λ e. e.number) (entries_of t)) (number ∷ map (λ e. e.number) (entries_of (planned t plan)))
 
 -- no orphan is left
@@ -312,8 +360,11 @@ module _ (t : Table) (v : IsValid t) (rising : IsAscending t.nodes) (numbers_fre
       left_end : IsPermutation (map (λ e. e.number) (entries_of t)) (number ∷ map (λ e. e.number) (entries_of (planned t kept)))
       left_end = subst (λ (k : ℕ). IsPermutation (map (λ e. e.number) (entries_of t)) (k ∷ map (λ e. e.number) (entries_of (planned t kept)))) b.named (left t v rising b.entry o'.plan.parts plan.parts o'.plan.root o'.plan.next d.low out.3 out.2 stage_end full_end)
 
+      keeps_end : KeepsOthers t number (planned t kept)
+      keeps_end = subst (λ (k : ℕ). KeepsOthers t k (planned t kept)) b.named (keeps t v rising b.entry o'.plan.parts plan.parts o'.plan.root o'.plan.next d.low out.3 out.2 stage_end full_end)
+
       pub finished : IsDone t number plan
-      finished = subst (IsDone t number) (plan_is plan plan.parts o'.plan.root o'.plan.next out.0 out.1 refl) (record { made = made_end; removed = record { entry = b.entry; named = b.named; removed = removed_end }; left = left_end })
+      finished = subst (IsDone t number) (plan_is plan plan.parts o'.plan.root o'.plan.next out.0 out.1 refl) (record { made = made_end; removed = record { entry = b.entry; named = b.named; removed = removed_end }; keeps = keeps_end; left = left_end })
 
   pub goes_at : (o1 o : Overlay) (fs : List Found) → o1 ≡ start → fs ≡ rest.orphans.items → ((e : Entry) (r : Ready e o1 fs 0) → (n : ℕ) × Goes e o1 o fs [] 0 n r) → (n : ℕ) × Goes b.entry start o rest.orphans.items [] 0 n (ready t v rising numbers_free number rest b)
   goes_at o1 o fs is same h =

@@ -5,3 +5,4 @@ pub mod Removing
 pub mod Start
 pub mod Collapses
 pub mod Done
+pub mod Ways

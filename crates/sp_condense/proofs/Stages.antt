@@ -243,6 +243,7 @@ module _ (t : Table) (e : Entry) where
         each = r.each (entries_of t) s.each (all_front (λ f. Among f (entries_of t)) (entries x.level (x.member ∷ [])) (orphan_entries os) s.each_orphan);
         each_orphan = all_back (λ f. Among f (entries_of t)) (entries x.level (x.member ∷ [])) (orphan_entries os) s.each_orphan;
         room = let small = level_low t.shape s.shape level u.root (body_at at level u.root) u.next s.sound s.some (distinct_front own (mine ++ rest) s.distinct) (all_front (λ n. n < u.next) own (mine ++ rest) s.low) (omega (arith, s.room)) in omega (arith, s.room, r.few, small.1);
+        few = let small = level_low t.shape s.shape level u.root (body_at at level u.root) u.next s.sound s.some (distinct_front own (mine ++ rest) s.distinct) (all_front (λ n. n < u.next) own (mine ++ rest) s.low) (omega (arith, s.room)) in omega (arith, s.few, r.few, small.1);
       }
 
       -- the other orphans stay as they were

@@ -232,6 +232,7 @@ module _ (t : Table) (v : IsValid t) (rising : IsAscending t.nodes) (numbers_fre
         each = subst (λ (m : Body level). AllByRecursion (λ f. Among f (entries_of t)) (entries level m)) back each.0;
         each_orphan = each.1;
         room = let few = removes_few t.shape (omega arith) level body b.entry b.left b.orphans b.removes in let l = few_levels in omega (arith, few, l);
+        few = let few = removes_few t.shape (omega arith) level body b.entry b.left b.orphans b.removes in let l = few_levels in omega (arith, few, l);
       }
 
   pub up_is : level ≡ (0 + level) + 0

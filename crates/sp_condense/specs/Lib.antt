@@ -1,3 +1,4 @@
 pub mod Removal
 pub mod Taking
 pub mod Staging
+pub mod Way

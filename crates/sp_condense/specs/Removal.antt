@@ -1,11 +1,12 @@
 -- The removal of an entry, on nested trees with numbers and positions, after Guttman, "R-Trees", SIGMOD 1984. The
 -- order of the orphans and the repetition at the root are fixed here; Guttman's paper leaves both open.
-use Rattle.std.specs.Prelude.{◌≡◌, ℕ, zero, suc, ◌<◌, ◌≤◌, ◌⊎◌, List, [], ◌∷◌, ◌++◌, map, length}
+use Rattle.std.specs.Prelude.{◌≡◌, ◌≢◌, ℕ, zero, suc, ◌+◌, ◌^◌, ◌<◌, ◌≤◌, ◌⊎◌, List, [], ◌∷◌, ◌++◌, map, length}
 use Rattle.sp_node.specs.declared.node.Entry.{Entry}
 use Rattle.sp_node.specs.declared.node.Shape.{Shape}
 use Rattle.sp_node.specs.Nested.{Member, Body, Branch}
-use Rattle.sp_node.specs.Look.{look}
-use Rattle.sp_node.specs.Table.{Table, body_at, level_of}
+use Rattle.sp_node.specs.Among.{Among}
+use Rattle.sp_node.specs.Look.{look, IsAscending}
+use Rattle.sp_node.specs.Table.{Table, IsValid, body_at, level_of, entries_of}
 use Rattle.sp_grow.specs.Insertion.{IsNode}
 use Rattle.sp_grow.specs.Nest.{Nest, nest, IsInserted}
 
@@ -65,3 +66,12 @@ pub record IsRemoved (t : Table) (number : ℕ) (t' : Table) : Type 0 where
   pub entry : Entry
   pub named : entry.number ≡ number
   pub removed : IsRemovedFrom t entry t'
+
+-- t' is a valid tree with the entries of t but the one of this number, with no more than 2^32 new nodes
+pub record KeepsOthers (t : Table) (number : ℕ) (t' : Table) : Type 0 where
+  pub valid : IsValid t'
+  pub ascending : IsAscending t'.nodes
+  pub onward : t.next ≤ t'.next
+  pub few : t'.next ≤ t.next + 2 ^ 32
+  pub back : (e : Entry) → Among e (entries_of t') → Among e (entries_of t) × (e.number ≢ number)
+  pub there : (e : Entry) → Among e (entries_of t) → e.number ≢ number → Among e (entries_of t')

@@ -51,6 +51,8 @@ pub record IsStage (t : Table) (e : Entry) (at : ℕ → Option Node) (root next
   pub each_orphan : AllByRecursion (λ f. Among f (entries_of t)) (orphan_entries orphans)
   -- numbers are left for the orphans
   pub room : next + 80 * length orphans < 2 ^ 63 + 2 ^ 33
+  -- and few are used
+  pub few : next + 80 * length orphans ≤ t.next + 2 ^ 32
 
 abbrev pub at_of : Overlay → ℕ → Option Node
 at_of o = look (table_of o).nodes

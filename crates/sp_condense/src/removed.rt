@@ -5,8 +5,9 @@ ghost use Rattle.sp_node.specs.Index.{leaf_with};
 ghost use Rattle.sp_node.specs.Plan.{IsMadeOf, planned};
 ghost use Rattle.sp_node.specs.Table.{level_of, entries_of};
 ghost use Rattle.std.specs.List.Sorted.{IsPermutation};
-ghost use Rattle.sp_condense.specs.Removal.{IsRemoved};
+ghost use Rattle.sp_condense.specs.Removal.{IsRemoved, KeepsOthers};
 ghost use Rattle.sp_condense.specs.Taking.{IsTaken};
+ghost use Rattle.sp_condense.specs.Way.{LeadsTo};
 ghost use Rattle.sp_condense.specs.Staging.{begun, IsKeptIf, IsSettled, IsOutcome};
 
 use crate::collapse::collapse;
@@ -19,17 +20,24 @@ use sp_node::{Node, Part, Parts, Plan, Tree};
 use std::alloc::{AllocError, Global};
 
 // The way from the root to the entry's leaf.
-fn path_to(alloc: Global, tree: &Tree, entry: u64) -> Result<Vec<usize>, AllocError> {
-    let mut path = Vec::new(alloc);
-    let leaf = tree.leaf_of(entry).ok_or(AllocError)?;
-    let rect = tree.entry(entry).ok_or(AllocError)?.rect;
-    let _ = find(tree, tree.root(), leaf, &rect, 65, &mut path)?;
-    Ok(path)
+fn path_to(alloc: Global, tree: &Tree, entry: u64) -> Result<Vec<usize>, AllocError>
+    requires there { IsSome (leaf_with tree.now.table.nodes entry) }
+    requires numbers { tree.now.table.next < 2 ^ 63 + 2 ^ 32 }
+    ensures { IfOk result (λ path. LeadsTo tree.now.table tree.now.table.root path.items entry) }
+{
+    let _valid = tree.next();
+    let leaf = tree.leaf_of(entry).unwrap();
+    let found = tree.entry(entry).unwrap();
+    match find(alloc, tree, tree.root(), leaf, &found.rect, 65)? {
+        Some(path) => Ok(path),
+        None => unreachable!(),
+    }
 }
 
 // Takes the entry out, and the nodes that have too few members then.
 fn take_out(alloc: Global, tree: &Tree, entry: u64) -> Result<Rest, AllocError>
-    requires { tree.now.table.next < 2 ^ 63 + 2 ^ 32 }
+    requires there { IsSome (leaf_with tree.now.table.nodes entry) }
+    requires numbers { tree.now.table.next < 2 ^ 63 + 2 ^ 32 }
     ensures { IfOk result (λ rest. IsTaken tree.now.table entry (level_of tree.now.table) tree.now.table.root 0 rest) }
 {
     let _valid = tree.next();
@@ -95,15 +103,17 @@ fn settle(alloc: Global, tree: &Tree, changed: Planned<'_>) -> Result<Plan, Allo
 /// level, from the highest level to the lowest, in the order in which they stood. Last, a root that is no
 /// leaf and has one child is replaced by that child, as often as that holds.
 ///
-/// The plan has exactly the nodes that differ, by ascending number. The one error is want of memory; that the
-/// way to the entry's leaf is always found is shown by tests, and no clause says it. Costs the inner nodes
-/// whose rectangles enclose the entry's, and for each orphan the members of the nodes on one path, squared
-/// where a node is split.
+/// The plan has exactly the nodes that differ, by ascending number. `KeepsOthers` says that its tree is valid,
+/// has exactly the other entries, and at most 2^32 new node numbers. The one error is want of memory: each
+/// rectangle on the way to the entry's leaf encloses the entry's, and so the way is always found. Costs the
+/// inner nodes whose rectangles enclose the entry's, and for each orphan the members of the nodes on one path,
+/// squared where a node is split.
 pub fn remove(alloc: Global, tree: &Tree, entry: u64) -> Result<Plan, AllocError>
     requires there { IsSome (leaf_with tree.now.table.nodes entry) }
     requires numbers { tree.now.table.next < 2 ^ 63 + 2 ^ 32 }
     ensures made { IfOk result (λ plan. IsMadeOf tree.now.table plan) }
     ensures removed { IfOk result (λ plan. IsRemoved tree.now.table entry (planned tree.now.table plan)) }
+    ensures keeps { IfOk result (λ plan. KeepsOthers tree.now.table entry (planned tree.now.table plan)) }
     ensures left { IfOk result (λ plan. IsPermutation (map (λ e. e.number) (entries_of tree.now.table)) (entry ∷ map (λ e. e.number) (entries_of (planned tree.now.table plan)))) }
 {
     let _valid = tree.next();

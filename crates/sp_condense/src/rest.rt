@@ -1,9 +1,11 @@
 // The way up from the leaf that an entry leaves.
-ghost use Rattle.std.specs.Prelude.{◌≡◌, ◌<◌, ◌≤◌, ◌+◌, ◌^◌, ◌∷◌, ◌++◌, [], ℕ, IfOk, MatchOption, length, take, drop, slice_get, slice_index_or, Some};
+ghost use Rattle.std.specs.Prelude.{◌≡◌, true, ◌<◌, ◌≤◌, ◌+◌, ◌^◌, ◌∷◌, ◌++◌, [], ℕ, IfOk, MatchOption, length, take, drop, slice_get, slice_index_or, Some};
 ghost use Rattle.sp_node.specs.declared.node.Child.{Child as ChildOf};
 ghost use Rattle.sp_node.specs.Table.{IsShape};
 ghost use Rattle.sp_grow.specs.Members.{rects_in};
 ghost use Rattle.sp_grow.specs.Below.{IsSpot, no_child};
+ghost use Rattle.sp_node.specs.Index.{has_number};
+ghost use Rattle.sp_condense.specs.Way.{LeadsTo, HasNone};
 ghost use Rattle.sp_condense.specs.Taking.{size_of, IsHere, IsKeptAbove, IsDroppedAbove, IsAbove, IsTaken};
 
 use crate::orphans::{Orphan, members_of};
@@ -144,9 +146,9 @@ fn above(
 
 // The position of the entry of this number.
 fn place_of(entries: &[Entry], number: u64) -> Option<usize>
-    ensures { MatchOption result (Unit {0}) (λ at. IsHere entries.now number at) }
+    ensures { MatchOption result (HasNone entries.now number) (λ at. IsHere entries.now number at) }
 {
-    for (i, entry) in entries.iter().enumerate() {
+    'entries: for (i, entry) in entries.iter().enumerate() {
         if entry.number == number {
             return Some(i);
         }
@@ -156,10 +158,13 @@ fn place_of(entries: &[Entry], number: u64) -> Option<usize>
 
 // A leaf without the entry of this number.
 fn take_entry(alloc: Global, entries: &[Entry], entry: u64) -> Result<Entries, AllocError>
+    requires { has_number entries.now entry ≡ true }
     ensures { IfOk result (λ items. (at : ℕ) × IsHere entries.now entry at × (items ≡ take at entries.now ++ drop (at + 1) entries.now)) }
 {
-    let at = place_of(entries, entry).ok_or(AllocError)?;
-    without(alloc, entries, at)
+    match place_of(entries, entry) {
+        Some(at) => without(alloc, entries, at),
+        None => unreachable!(),
+    }
 }
 
 /// Takes the entry of this number out of the leaf to which the path leads from the node.
@@ -171,6 +176,7 @@ pub(crate) fn take_below(
     path: &[usize],
     entry: u64,
 ) -> Result<Rest, AllocError>
+    requires { LeadsTo tree.now.table number path.now entry }
     ensures { IfOk result (λ rest. (level : ℕ) → IsSpot tree.now.table level number → depth + level < 2 ^ 63 → IsTaken tree.now.table entry level number depth rest) }
 {
     match tree.node(number) {
@@ -184,15 +190,12 @@ pub(crate) fn take_below(
         }
         Some(Node::Inner(children)) => {
             let children = children.as_slice();
-            let at = *path.first().ok_or(AllocError)?;
-            if at >= children.len() {
-                return Err(AllocError);
-            }
+            let at = path[0];
             let child = children[at].node;
             let deeper = depth.saturating_add(1);
             let below = take_below(alloc, tree, child, deeper, &path[1..], entry)?;
             above(alloc, tree.shape(), children, at, deeper, below)
         }
-        None => Err(AllocError),
+        None => unreachable!(),
     }
 }

@@ -5,7 +5,7 @@ use Rattle.sp_node.specs.declared.plan.Plan.{Plan}
 use Rattle.sp_node.specs.Plan.{IsMadeOf, planned}
 use Rattle.sp_node.specs.Table.{entries_of}
 use Rattle.sp_condense.specs.declared.orphans.Orphan.{Orphan as Found}
-use Rattle.sp_condense.specs.Removal.{IsRemoved}
+use Rattle.sp_condense.specs.Removal.{IsRemoved, KeepsOthers}
 use Rattle.sp_condense.specs.Staging.{Ready, IsOutcome}
 use Rattle.sp_condense.proofs.Done.{ready_at, goes_at, stage_at, finished}
 use Rattle.sp_condense.proofs.removed.remove.Goals as goal
@@ -35,6 +35,14 @@ returns-clause-removed c =
     let d = c.in_ok-collapse.ensures s.0 s.1 s.2 in
     let done = λ (plan : Plan) (out : IsOutcome c.args.tree.now.table.nodes c.collapse.new.tree plan). finished c.args.tree.now.table c.next-valid.ensures.valid c.next-valid.ensures.rising c.requires.numbers c.args.entry c.in_ok-rest.rest c.in_ok-rest.ensures c.insert_all.new.tree g.0 g.1 c.collapse.new.tree d plan out in
     IfOk-weaker c.settle.result (IsOutcome c.args.tree.now.table.nodes c.collapse.new.tree) (λ (plan : Plan). IsRemoved c.args.tree.now.table c.args.entry (planned c.args.tree.now.table plan)) (λ plan out. (done plan out).removed) c.settle.ensures
+
+pub returns-clause-keeps : goal.returns-clause-keeps
+returns-clause-keeps c =
+    let g = goes_at c.args.tree.now.table c.next-valid.ensures.valid c.next-valid.ensures.rising c.requires.numbers c.args.entry c.in_ok-rest.rest c.in_ok-rest.ensures c.in_ok-changed.changed c.insert_all.new.tree c.as_slice.result.now c.in_ok-changed.ensures c.as_slice.ensures.value c.in_ok-insert_all.ensures in
+    let s = stage_at c.args.tree.now.table c.next-valid.ensures.valid c.next-valid.ensures.rising c.requires.numbers c.args.entry c.in_ok-rest.rest c.in_ok-rest.ensures c.insert_all.new.tree g.0 g.1 in
+    let d = c.in_ok-collapse.ensures s.0 s.1 s.2 in
+    let done = λ (plan : Plan) (out : IsOutcome c.args.tree.now.table.nodes c.collapse.new.tree plan). finished c.args.tree.now.table c.next-valid.ensures.valid c.next-valid.ensures.rising c.requires.numbers c.args.entry c.in_ok-rest.rest c.in_ok-rest.ensures c.insert_all.new.tree g.0 g.1 c.collapse.new.tree d plan out in
+    IfOk-weaker c.settle.result (IsOutcome c.args.tree.now.table.nodes c.collapse.new.tree) (λ (plan : Plan). KeepsOthers c.args.tree.now.table c.args.entry (planned c.args.tree.now.table plan)) (λ plan out. (done plan out).keeps) c.settle.ensures
 
 pub returns-clause-left : goal.returns-clause-left
 returns-clause-left c =
