@@ -6,6 +6,7 @@ mod Framing
 mod Heads
 pub mod Making
 pub mod Opened
+pub mod Ordering
 pub mod Outcomes
 mod Pages
 pub mod Passing
@@ -16,3 +17,4 @@ pub mod Scans
 mod Turning
 mod Turns
 pub mod Walking
+pub mod Smallness

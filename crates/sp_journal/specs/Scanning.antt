@@ -4,6 +4,9 @@ use Rattle.sp_journal.specs.declared.kind.Kind.{Kind}
 use Rattle.sp_journal.specs.declared.kind.Kind.TheVariants.{Empty, Foreign, Unfinished, Settled}
 use Rattle.sp_journal.specs.declared.scanned.Scan.{Scan}
 use Rattle.sp_journal.specs.declared.types.Recovered.{Recovered}
+use Rattle.sp_rect.specs.declared.record.Record.{Record}
+use Rattle.sp_rect.specs.Store.{IsOrdered}
+use Rattle.sp_plain.specs.Taking.{most_records}
 use Rattle.sp_journal.specs.Kinds.{IsKind}
 use Rattle.sp_journal.specs.Recovery.{Base, IsBase, head, nothing}
 
@@ -29,3 +32,7 @@ Held (Settled version generation) file end found = (base : Base) × (base.versio
 pub record IsScan (file : List ℕ) (scan : Scan) : Type 0 where
   pub kind : IsKind file scan.kind
   pub held : Held scan.kind file scan.end scan.found
+
+-- records that a journal may hold: by strictly ascending id, and no more than it takes
+abbrev pub AreHeld : List Record → Type 0
+AreHeld records = IsOrdered records × (length records ≤ most_records)

@@ -149,3 +149,9 @@ queued_behind ledger changes = record { base = ledger.base; flight = ledger.flig
 abbrev pub queued_after : Phase → Call → ℕ → ℕ
 queued_after Ready Wrote n = 0
 queued_after phase answer n = n
+
+-- The commits in flight after a call: those that were queued once their body is written, none once they are settled.
+abbrev pub flying_after : Phase → Call → ℕ → ℕ → ℕ
+flying_after Ready Wrote flying commits = commits
+flying_after Opened (Durable n) flying commits = 0
+flying_after phase answer flying commits = flying

@@ -5,7 +5,7 @@ ghost use Rattle.sp_disk.specs.Moments.{LeavesOnly};
 ghost use Rattle.sp_journal.specs.declared.types.Recovered.{Recovered as RecoveredOf};
 ghost use Rattle.sp_journal.specs.Kinds.{IsKind};
 ghost use Rattle.sp_journal.specs.Opening.{RecoversAs, Opens, IsReady, IsAttached, Refused};
-ghost use Rattle.sp_journal.specs.Scanning.{Held};
+ghost use Rattle.sp_journal.specs.Scanning.{Held, AreHeld};
 
 use crate::create::create;
 use crate::kind::Kind;
@@ -33,7 +33,8 @@ fn prepare<D: Disk>(disk: &mut D, kind: Kind) -> Result<(), DiskError>
 // Reads a file of which a stop leaves what a read gives, and prepares it.
 fn start<D: Disk>(alloc: Global, disk: &mut D) -> Result<(Work, Recovered), JournalError>
     ensures attached { IsTrue (D.tells disk.old) → ((file : List ℕ) → D.images disk.old (D.moment disk.old) file → file ≡ D.reads disk.old) → IfOk result (λ p. IsAttached (D.reads disk.old) (D.reads disk.new) (D.images disk.new (D.moment disk.new)) p.0 p.1) }
-    ensures fresh { IfOk result (λ p. (p.0.phase ≡ Phase.Ready) × (p.0.commits ≡ 0) × (p.0.changes ≡ 0)) }
+    ensures fresh { IfOk result (λ p. (p.0.phase ≡ Phase.Ready) × (p.0.flying ≡ 0) × (p.0.commits ≡ 0) × (p.0.changes ≡ 0)) }
+    ensures held { IfOk result (λ p. AreHeld p.1.records) }
     ensures refused { IsTrue (D.tells disk.old) → IfErr result (λ e. Refused e (D.reads disk.old) (D.reads disk.new)) }
     ensures crash { IsTrue (D.tells disk.old) → ((file : List ℕ) → D.images disk.old (D.moment disk.old) file → file ≡ D.reads disk.old) → LeavesOnly (D.moment disk.old) (D.moment disk.new) (D.images disk.old) (D.images disk.new) (RecoversAs (D.reads disk.old)) }
     ensures later { D.faults disk.old ≤ D.faults disk.new }
@@ -50,7 +51,8 @@ fn start<D: Disk>(alloc: Global, disk: &mut D) -> Result<(Work, Recovered), Jour
 // Settles a file, reads it and prepares it.
 fn open<D: Disk>(alloc: Global, disk: &mut D) -> Result<(Work, Recovered), JournalError>
     ensures attached { IsTrue (D.tells disk.old) → IfOk result (λ p. IsAttached (D.reads disk.old) (D.reads disk.new) (D.images disk.new (D.moment disk.new)) p.0 p.1) }
-    ensures fresh { IfOk result (λ p. (p.0.phase ≡ Phase.Ready) × (p.0.commits ≡ 0) × (p.0.changes ≡ 0)) }
+    ensures fresh { IfOk result (λ p. (p.0.phase ≡ Phase.Ready) × (p.0.flying ≡ 0) × (p.0.commits ≡ 0) × (p.0.changes ≡ 0)) }
+    ensures held { IfOk result (λ p. AreHeld p.1.records) }
     ensures refused { IsTrue (D.tells disk.old) → IfErr result (λ e. Refused e (D.reads disk.old) (D.reads disk.new)) }
     ensures crash { IsTrue (D.tells disk.old) → Opens (D.moment disk.old) (D.moment disk.new) (D.images disk.old) (D.images disk.new) (RecoversAs (D.reads disk.old)) }
     ensures later { D.faults disk.old ≤ D.faults disk.new }
@@ -66,12 +68,14 @@ impl<D: Disk> Journal<D> {
     /// Opens the journal that stands on the disk, and tells what it holds. It begins with a sync, so that
     /// nothing is pending. A file that holds nothing is made anew where its making was not finished.
     ///
+    /// Of every disk, the records are by strictly ascending id, and at most 1048576.
     /// From the first sync on, a stop at any moment leaves a file that is recovered to the same.
     /// `Foreign` and `Damaged` come exactly where the file is so, and leave it as it was; with an error
     /// the disk is handed back.
     pub fn attach(alloc: Global, disk: D) -> Result<(Journal<D>, Recovered), (D, JournalError)>
         ensures attached { IsTrue (D.tells disk) → IfOk result (λ p. IsAttached (D.reads disk) (D.reads p.0.disk) (D.images p.0.disk (D.moment p.0.disk)) p.0.work p.1) }
-        ensures fresh { IfOk result (λ p. (p.0.work.phase ≡ Phase.Ready) × (p.0.work.commits ≡ 0) × (p.0.work.changes ≡ 0)) }
+        ensures fresh { IfOk result (λ p. (p.0.work.phase ≡ Phase.Ready) × (p.0.work.flying ≡ 0) × (p.0.work.commits ≡ 0) × (p.0.work.changes ≡ 0)) }
+        ensures held { IfOk result (λ p. AreHeld p.1.records) }
         ensures refused { IsTrue (D.tells disk) → IfErr result (λ e. Refused e.1 (D.reads disk) (D.reads e.0)) }
         ensures crash { IsTrue (D.tells disk) → MatchResult result (λ p. Opens (D.moment disk) (D.moment p.0.disk) (D.images disk) (D.images p.0.disk) (RecoversAs (D.reads disk))) (λ e. Opens (D.moment disk) (D.moment e.0) (D.images disk) (D.images e.0) (RecoversAs (D.reads disk))) }
         ensures later { MatchResult result (λ p. D.faults disk ≤ D.faults p.0.disk) (λ e. D.faults disk ≤ D.faults e.0) }

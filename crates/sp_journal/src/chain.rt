@@ -1,5 +1,6 @@
 // The entries of a file that were read so far.
-ghost use Rattle.std.specs.Prelude.{◌<◌, ◌≤◌, ◌^◌};
+ghost use Rattle.std.specs.Prelude.{◌<◌, ◌≤◌, ◌^◌, length};
+ghost use Rattle.sp_plain.specs.Taking.{most_records};
 
 use crate::Recovered;
 use crate::contents::{load, make_batch};
@@ -23,6 +24,7 @@ pub struct Chain {
     ghost at_fits: { at < 2 ^ 63 },
     ghost few_batches: { batches ≤ at },
     ghost few_commits: { commits ≤ at },
+    ghost few_records: { length store ≤ most_records },
 }
 
 impl Chain {
@@ -30,6 +32,8 @@ impl Chain {
     ghost use Rattle.std.specs.Prelude.{IfOk};
     ghost use Rattle.sp_journal.specs.declared.types.Recovered.{Recovered as RecoveredOf};
     ghost use Rattle.sp_journal.specs.Recovery.{nothing, Enters};
+    ghost use Rattle.sp_rect.specs.Store.{IsOrdered};
+    ghost use Rattle.sp_plain.specs.Taking.{most_records};
     ghost use Rattle.sp_journal.specs.Chaining.{found_in};
 
     /// No entry of a file of that generation was read.
@@ -101,7 +105,9 @@ impl Chain {
 
     /// What the entries lead to. Costs a copy of the records.
     pub fn recovered(&self) -> Result<Recovered, AllocError>
-        ensures { IfOk result (λ found. found ≡ found_in self.now) }
+        ensures found { IfOk result (λ found. found ≡ found_in self.now) }
+        ensures ordered { IsOrdered self.now.store }
+        ensures small { length self.now.store ≤ most_records }
     {
         Ok(Recovered {
             records: self.store.records().copy(self.alloc)?,

@@ -4,7 +4,7 @@ ghost use Rattle.sp_disk.specs.Faults.{Rose};
 ghost use Rattle.sp_disk.specs.Moments.{LeavesOnly};
 ghost use Rattle.sp_plain.specs.Taking.{taken};
 ghost use Rattle.sp_journal.specs.Recovery.{all_changes};
-ghost use Rattle.sp_journal.specs.Standing.{Ledger, Stands, Keeps, Answered, MayLeave, turned, queued_behind, queued_after};
+ghost use Rattle.sp_journal.specs.Standing.{Ledger, Stands, Keeps, Answered, MayLeave, turned, queued_behind, queued_after, flying_after};
 ghost use Rattle.sp_rect.specs.declared.record.Record.{Record};
 
 use crate::Call;
@@ -29,7 +29,9 @@ fn write_body<D: Disk>(disk: &mut D, work: &mut Work) -> Call
     ensures answer { Answered Phase.Ready result work.old work.new }
     ensures changes { work.new.changes ≡ queued_after Phase.Ready result work.old.changes }
     ensures commits { work.new.commits ≡ queued_after Phase.Ready result work.old.commits }
+    ensures flying { work.new.flying ≡ flying_after Phase.Ready result work.old.flying work.old.commits }
     ensures fewer { work.new.changes ≤ work.old.changes }
+    ensures once { D.moment disk.new ≤ D.moment disk.old + 1 }
     ensures later { D.faults disk.old ≤ D.faults disk.new }
     ensures fault { (at : ℕ) → result ≡ Call.Fault at → (Rose (D.faults disk.old) (D.faults disk.new)) }
     ensures memory { result ≡ Call.Memory → IsTrue (D.takes_memory disk.old) × (disk.new ≡ disk.old) }
@@ -57,7 +59,9 @@ fn settle_body<D: Disk>(disk: &mut D, work: &mut Work) -> Call
     ensures answer { Answered Phase.Written result work.old work.new }
     ensures changes { work.new.changes ≡ queued_after Phase.Written result work.old.changes }
     ensures commits { work.new.commits ≡ queued_after Phase.Written result work.old.commits }
+    ensures flying { work.new.flying ≡ flying_after Phase.Written result work.old.flying work.old.commits }
     ensures fewer { work.new.changes ≤ work.old.changes }
+    ensures once { D.moment disk.new ≤ D.moment disk.old + 1 }
     ensures later { D.faults disk.old ≤ D.faults disk.new }
     ensures fault { (at : ℕ) → result ≡ Call.Fault at → (Rose (D.faults disk.old) (D.faults disk.new)) }
     ensures memory { result ≡ Call.Memory → IsTrue (D.takes_memory disk.old) × (disk.new ≡ disk.old) }
@@ -85,7 +89,9 @@ fn open_gate<D: Disk>(disk: &mut D, work: &mut Work) -> Call
     ensures answer { Answered Phase.Settled result work.old work.new }
     ensures changes { work.new.changes ≡ queued_after Phase.Settled result work.old.changes }
     ensures commits { work.new.commits ≡ queued_after Phase.Settled result work.old.commits }
+    ensures flying { work.new.flying ≡ flying_after Phase.Settled result work.old.flying work.old.commits }
     ensures fewer { work.new.changes ≤ work.old.changes }
+    ensures once { D.moment disk.new ≤ D.moment disk.old + 1 }
     ensures later { D.faults disk.old ≤ D.faults disk.new }
     ensures fault { (at : ℕ) → result ≡ Call.Fault at → (Rose (D.faults disk.old) (D.faults disk.new)) }
     ensures memory { result ≡ Call.Memory → IsTrue (D.takes_memory disk.old) × (disk.new ≡ disk.old) }
@@ -113,7 +119,9 @@ fn settle_gate<D: Disk>(disk: &mut D, work: &mut Work) -> Call
     ensures answer { Answered Phase.Opened result work.old work.new }
     ensures changes { work.new.changes ≡ queued_after Phase.Opened result work.old.changes }
     ensures commits { work.new.commits ≡ queued_after Phase.Opened result work.old.commits }
+    ensures flying { work.new.flying ≡ flying_after Phase.Opened result work.old.flying work.old.commits }
     ensures fewer { work.new.changes ≤ work.old.changes }
+    ensures once { D.moment disk.new ≤ D.moment disk.old + 1 }
     ensures later { D.faults disk.old ≤ D.faults disk.new }
     ensures fault { (at : ℕ) → result ≡ Call.Fault at → (Rose (D.faults disk.old) (D.faults disk.new)) }
     ensures memory { result ≡ Call.Memory → IsTrue (D.takes_memory disk.old) × (disk.new ≡ disk.old) }
@@ -141,10 +149,12 @@ fn step<D: Disk>(disk: &mut D, work: &mut Work) -> Call
     ensures answer { Answered work.old.phase result work.old work.new }
     ensures changes { work.new.changes ≡ queued_after work.old.phase result work.old.changes }
     ensures commits { work.new.commits ≡ queued_after work.old.phase result work.old.commits }
+    ensures flying { work.new.flying ≡ flying_after work.old.phase result work.old.flying work.old.commits }
     ensures fewer { work.new.changes ≤ work.old.changes }
     ensures nothing { work.old.phase ≡ Phase.Ready → work.old.commits ≡ 0 → result ≡ Call.Nothing }
     ensures still { result ≡ Call.Nothing → disk.new ≡ disk.old }
     ensures broken { work.old.phase ≡ Phase.Broken → (result ≡ Call.Fault work.old.end) × (disk.new ≡ disk.old) }
+    ensures once { D.moment disk.new ≤ D.moment disk.old + 1 }
     ensures later { D.faults disk.old ≤ D.faults disk.new }
     ensures fault { (at : ℕ) → result ≡ Call.Fault at → (work.old.phase ≡ Phase.Broken) ⊎ Rose (D.faults disk.old) (D.faults disk.new) }
     ensures memory { result ≡ Call.Memory → IsTrue (D.takes_memory disk.old) × (disk.new ≡ disk.old) }
@@ -190,10 +200,12 @@ impl<D: Disk> Journal<D> {
         ensures answer { Answered self.old.work.phase result self.old.work self.new.work }
         ensures changes { self.new.work.changes ≡ queued_after self.old.work.phase result self.old.work.changes }
         ensures commits { self.new.work.commits ≡ queued_after self.old.work.phase result self.old.work.commits }
+        ensures flying { self.new.work.flying ≡ flying_after self.old.work.phase result self.old.work.flying self.old.work.commits }
         ensures fewer { self.new.work.changes ≤ self.old.work.changes }
         ensures nothing { self.old.work.phase ≡ Phase.Ready → self.old.work.commits ≡ 0 → result ≡ Call.Nothing }
         ensures still { result ≡ Call.Nothing → self.new.disk ≡ self.old.disk }
         ensures broken { self.old.work.phase ≡ Phase.Broken → (result ≡ Call.Fault self.old.work.end) × (self.new.disk ≡ self.old.disk) }
+        ensures once { D.moment self.new.disk ≤ D.moment self.old.disk + 1 }
         ensures later { D.faults self.old.disk ≤ D.faults self.new.disk }
         ensures fault { (at : ℕ) → result ≡ Call.Fault at → (self.old.work.phase ≡ Phase.Broken) ⊎ Rose (D.faults self.old.disk) (D.faults self.new.disk) }
         ensures memory { result ≡ Call.Memory → IsTrue (D.takes_memory self.old.disk) × (self.new.disk ≡ self.old.disk) }

@@ -26,7 +26,7 @@ pub use encode::checkpoint;
 pub use inspection::inspect;
 pub use journal::Journal;
 pub use kind::{Kind, kind_on, write_header};
-pub use laws::outcome_is_one;
+pub use laws::{outcome_is_one, what_is_held_ascends};
 pub use scan::scan_file;
 pub use scanned::Scan;
 pub use types::{Call, JournalError, Recovered};

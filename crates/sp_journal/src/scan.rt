@@ -8,6 +8,7 @@ ghost use Rattle.sp_journal.specs.Recovery.{Base, IsHeader, Recovers, nothing};
 ghost use Rattle.sp_journal.specs.Kinds.{IsKind};
 ghost use Rattle.sp_journal.specs.Recovery.{Foreign, Damaged, Holds};
 ghost use Rattle.sp_journal.specs.Scanning.{IsScan};
+ghost use Rattle.sp_journal.specs.Scanning.{AreHeld};
 
 use crate::chain::Chain;
 use crate::kind::{Kind, kind_on};
@@ -55,6 +56,7 @@ fn settled<D: Disk>(
 ) -> Result<Scan, JournalError>
     requires long { 17 < len }
     requires small { len < 2 ^ 63 }
+    ensures held { IfOk result (λ scan. AreHeld scan.found.records) }
     ensures scan { IsTrue (D.tells disk.old) → length (D.reads disk.old) ≡ len → IsKind (D.reads disk.old) (Kind.Settled version generation) → IfOk result (IsScan (D.reads disk.old)) }
     ensures damaged { (at : ℕ) → IsTrue (D.tells disk.old) → length (D.reads disk.old) ≡ len → IsKind (D.reads disk.old) (Kind.Settled version generation) → IsErrOf result (JournalError.Damaged at) → Recovers (D.reads disk.old) (Damaged at) }
     ensures foreign { IsErrOf result JournalError.Foreign → ⊥ }
@@ -97,6 +99,7 @@ fn unmade(alloc: Global, kind: Kind) -> Scan
 /// where the file is so. The payload of one entry is held at a time, and no more memory is taken for it
 /// than the file has bytes.
 pub fn scan_file<D: Disk>(alloc: Global, disk: &mut D) -> Result<Scan, JournalError>
+    ensures held { IfOk result (λ scan. AreHeld scan.found.records) }
     ensures scan { IsTrue (D.tells disk.old) → IfOk result (IsScan (D.reads disk.old)) }
     ensures foreign { IsTrue (D.tells disk.old) → IsErrOf result JournalError.Foreign → Recovers (D.reads disk.old) Foreign }
     ensures worn { IsErrOf result JournalError.Worn → ⊥ }

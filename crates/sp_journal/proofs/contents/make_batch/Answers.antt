@@ -6,7 +6,7 @@ use Rattle.sp_journal.proofs.contents.make_batch.Goals as goal
 pub returns-clause-made : goal.returns-clause-made
 returns-clause-made c = λ generation front found same kind.
     let whole = c.in_ok-commits.ensures.whole in
-    let made = was_taken (all_changes c.in_ok-commits.commits) c.args.store.now c.make_all.new.store c.in_ok-make_all.field-0 c.if-not-branch.false c.in_ok-make_all.ensures in
+    let made = was_taken (all_changes c.in_ok-commits.commits) c.args.store.now c.make_all.new.store c.in_ok-make_all.field-0 c.if-not-branch.false c.in_ok-make_all.ensures.made in
     subst (λ (n : ℕ). Enters generation front found c.args.payload.now (record { records = c.make_all.new.store; batches = found.batches + 1; commits = found.commits + n })) (sym c.len.ensures.len)
     (enters_batch generation front c.args.payload.now found c.in_ok-commits.commits c.args.store.now c.make_all.new.store same kind whole.0 whole.1 made)
 

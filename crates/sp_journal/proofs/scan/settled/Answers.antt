@@ -17,5 +17,5 @@ returns-clause-scan g c = λ told size kind.
     let ended = c.in_ok-chain.ensures.ended c.args.version told size is.header (behind_header file c.args.version c.args.generation is) in
     record {
       kind = kind;
-      held = (ended.0, ended.1, ended.2.generation ∙ c.in_ok-chain.ensures.generation, ended.2.found ∙ sym c.in_ok-recovered.ensures, rests_here file c.in_ok-chain.chain c.args.version c.args.generation ended.0 ended.1 (ended.2.generation ∙ c.in_ok-chain.ensures.generation) is ended.2);
+      held = (ended.0, ended.1, ended.2.generation ∙ c.in_ok-chain.ensures.generation, ended.2.found ∙ sym c.in_ok-recovered.ensures.found, rests_here file c.in_ok-chain.chain c.args.version c.args.generation ended.0 ended.1 (ended.2.generation ∙ c.in_ok-chain.ensures.generation) is ended.2);
     }
