@@ -5,13 +5,13 @@ use Rattle.sp_journal.specs.declared.kind.Kind.TheVariants.{Empty, Foreign, Unfi
 use Rattle.sp_journal.specs.Kinds.{IsKind}
 use Rattle.sp_pair.specs.Pairs.{IsUnsettled, IsNoNewer, IsOlder, IsChosen, first, second, neither}
 
-older : (kind : Kind) (generation : ℕ) → IsUnsettled kind → IsOlder kind generation
+pub older : (kind : Kind) (generation : ℕ) → IsUnsettled kind → IsOlder kind generation
 older Empty generation is = tt
 older Unfinished generation is = tt
 older Foreign generation is = is
 older (Settled version own) generation is = absurd is
 
-no_newer : (kind : Kind) (generation : ℕ) → IsUnsettled kind → IsNoNewer kind generation
+pub no_newer : (kind : Kind) (generation : ℕ) → IsUnsettled kind → IsNoNewer kind generation
 no_newer Empty generation is = tt
 no_newer Unfinished generation is = tt
 no_newer Foreign generation is = is

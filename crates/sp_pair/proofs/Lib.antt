@@ -1,2 +1,7 @@
 mod Choices
+mod Kinding
 mod Refusals
+pub mod Renewing
+mod Resting
+pub mod Roles
+mod Stops

@@ -1,17 +1,14 @@
--- What refusals say of two files, and what a stop leaves of files that are settled and read.
-use Rattle.std.proofs.Common.{◌≡◌, ◌⊎◌, inl, inr, ◌≤◌, ◌↔◌, ℕ, Result, Ok, Err, IfOk, IfErr, if◌then◌else◌, List, sym, subst, ◌∙◌, arith}
-use Rattle.sp_disk.specs.Moments.{LeavesOnly}
+-- What refusals say of two files.
+use Rattle.std.proofs.Common.{◌≡◌, ◌⊎◌, inl, inr, ℕ, Result, Ok, Err, IfOk, IfErr, if◌then◌else◌, List, sym, subst}
 use Rattle.sp_journal.specs.declared.kind.Kind.{Kind}
 use Rattle.sp_journal.specs.declared.kind.Kind.TheVariants.{Foreign as IsForeign}
 use Rattle.sp_journal.specs.declared.types.JournalError.{JournalError}
 use Rattle.sp_journal.specs.declared.types.JournalError.TheVariants.{Foreign as SaysForeign, Damaged as SaysDamaged, Worn, Fault, Memory}
 use Rattle.sp_journal.specs.Kinds.{IsKind}
 use Rattle.sp_journal.specs.declared.types.Recovered.{Recovered}
-use Rattle.sp_journal.specs.Looking.{OnlyReads}
 use Rattle.sp_journal.specs.Recovery.{Foreign, Damaged, Holds, Recovers}
 use Rattle.sp_pair.specs.declared.choice.Choice.{Choice}
 use Rattle.sp_pair.specs.Pairs.{IsChosen, RecoversPair, foreign, current, RefusedAs, RefusedPair, RefusedKinds}
-use Rattle.sp_pair.specs.Settling.{IsSettled}
 
 foreign_pair : (main alt : List ℕ) (one other : Kind) → IsKind main one → IsKind alt other → (one ≡ IsForeign) ⊎ (other ≡ IsForeign) → RefusedKinds SaysForeign main alt
 foreign_pair main alt one other is also which = elim which [
@@ -23,24 +20,6 @@ pub refused_by : (main alt : List ℕ) (one other : Kind) (r : Result Choice Jou
     → IfErr r (λ e. RefusedKinds e main alt)
 refused_by main alt one other (Ok c) is also why = tt
 refused_by main alt one other (Err e) is also why = subst (λ x. RefusedKinds x main alt) (sym why.0) (foreign_pair main alt one other is also why.1)
-
--- a settled file that was read
-pub settled_more : (a b c : ℕ) (r s t : List ℕ) (old mid new : ℕ → List ℕ → Type 0) → IsSettled a b r s old mid → OnlyReads b c s t mid new → IsSettled a c r t old new
-settled_more a b c r s t old mid new is reads = record {
-  bytes = reads.bytes ∙ is.bytes;
-  first = is.first;
-  low = is.low;
-  soon = is.soon;
-  now_low = omega (arith, is.now_low, reads.stop.later);
-  each = λ k file low high left. elim (which k) [
-    | inl before ↦ is.each k file low before ((reads.stop.past k file before).0 left)
-    | inr after ↦ is.each b file is.now_low (omega arith) (reads.stop.each k file after high left)
-  ];
-  past = λ k file low. let one = is.past k file low in let two = reads.stop.past k file (omega (arith, low, is.low, is.now_low)) in (λ x. one.0 (two.0 x), λ x. two.1 (one.1 x));
-}
-  where
-    which : (k : ℕ) → (k ≤ b) ⊎ (b ≤ k)
-    which k = grind arith
 
 -- what is read of the current file, as what the two hold
 pub held_by : (main alt was also : List ℕ) (c : Choice) (r : Result Recovered JournalError) → was ≡ main → also ≡ alt → IsChosen main alt c.is_alt c.version c.generation → IfOk r (λ found. Recovers (if c.is_alt then also else was) (Holds found))

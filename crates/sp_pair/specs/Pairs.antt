@@ -1,5 +1,5 @@
 -- What two files of one journal hold together.
-use Rattle.std.specs.Prelude.{◌≡◌, ◌⊎◌, ◌<◌, ◌≤◌, ℕ, Bool, true, false, if◌then◌else◌, List}
+use Rattle.std.specs.Prelude.{◌⊎◌, ◌<◌, ◌≤◌, ℕ, Bool, true, false, if◌then◌else◌, List}
 use Rattle.sp_journal.specs.declared.kind.Kind.{Kind}
 use Rattle.sp_journal.specs.declared.kind.Kind.TheVariants.{Empty, Foreign as IsForeign, Unfinished, Settled}
 use Rattle.sp_journal.specs.declared.types.JournalError.{JournalError}

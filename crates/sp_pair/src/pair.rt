@@ -3,8 +3,9 @@ ghost use Rattle.std.specs.Prelude.{◌≡◌, ◌⊎◌, ◌≤◌, ℕ, List, 
 ghost use Rattle.sp_disk.specs.Faults.{Rose};
 ghost use Rattle.sp_journal.specs.Looking.{OnlyReads};
 ghost use Rattle.sp_journal.specs.Recovery.{Holds, Recovers};
+ghost use Rattle.sp_pair.specs.Compacting.{IsAtRest};
 ghost use Rattle.sp_pair.specs.Pairs.{IsChosen, RecoversPair, RefusedAs, RefusedPair, RefusedKinds};
-ghost use Rattle.sp_pair.specs.Settling.{IsSettled, Looked};
+ghost use Rattle.sp_pair.specs.Settling.{IsSettled, Looked, SinceSynced};
 
 use crate::choice::{Choice, choice_of};
 use crate::looking::{look, settle};
@@ -50,6 +51,7 @@ fn look_both<D: Disk>(main: &mut D, alt: &mut D) -> Result<Choice, JournalError>
     ensures refused { IsTrue (D.tells main.old) → IsTrue (D.tells alt.old) → IfErr result (λ e. RefusedKinds e (D.reads main.old) (D.reads alt.old)) }
     ensures main_looks { IsTrue (D.tells main.old) → OnlyReads (D.moment main.old) (D.moment main.new) (D.reads main.old) (D.reads main.new) (D.images main.old) (D.images main.new) }
     ensures alt_looks { IsTrue (D.tells alt.old) → OnlyReads (D.moment alt.old) (D.moment alt.new) (D.reads alt.old) (D.reads alt.new) (D.images alt.old) (D.images alt.new) }
+    ensures only { (IsErrOf result JournalError.Worn → ⊥) × ((at : ℕ) → IsErrOf result (JournalError.Damaged at) → ⊥) }
     ensures later { (D.faults main.old ≤ D.faults main.new) × (D.faults alt.old ≤ D.faults alt.new) }
     ensures fault { IsErrOf result JournalError.Fault → Rose (D.faults main.old) (D.faults main.new) ⊎ Rose (D.faults alt.old) (D.faults alt.new) }
     ensures tells { (D.tells main.new ≡ D.tells main.old) × (D.tells alt.new ≡ D.tells alt.old) }
@@ -65,8 +67,10 @@ fn choose_of<D: Disk>(main: &mut D, alt: &mut D) -> Result<Choice, JournalError>
     ensures chosen { IsTrue (D.tells main.old) → IsTrue (D.tells alt.old) → IfOk result (λ c. IsChosen (D.reads main.old) (D.reads alt.old) c.is_alt c.version c.generation) }
     ensures refused { IsTrue (D.tells main.old) → IsTrue (D.tells alt.old) → IfErr result (λ e. RefusedKinds e (D.reads main.old) (D.reads alt.old)) }
     ensures settled { IsTrue (D.tells main.old) → IsTrue (D.tells alt.old) → OnOk result (IsSettled (D.moment main.old) (D.moment main.new) (D.reads main.old) (D.reads main.new) (D.images main.old) (D.images main.new) × IsSettled (D.moment alt.old) (D.moment alt.new) (D.reads alt.old) (D.reads alt.new) (D.images alt.old) (D.images alt.new)) }
+    ensures crash { IsTrue (D.tells main.old) → IsTrue (D.tells alt.old) → MatchResult result (λ c. SinceSynced (D.moment main.old) (D.moment main.new) (D.moment alt.old) (D.moment alt.new) (D.reads main.old) (D.reads alt.old) (D.images main.new) (D.images alt.new)) (λ e. e ≡ JournalError.Foreign → SinceSynced (D.moment main.old) (D.moment main.new) (D.moment alt.old) (D.moment alt.new) (D.reads main.old) (D.reads alt.old) (D.images main.new) (D.images alt.new)) }
     ensures main_looked { IsTrue (D.tells main.old) → IsTrue (D.tells alt.old) → Looked (D.moment main.old) (D.moment main.new) (D.reads main.old) (D.reads main.new) (D.images main.old) (D.images main.new) }
     ensures alt_looked { IsTrue (D.tells main.old) → IsTrue (D.tells alt.old) → Looked (D.moment alt.old) (D.moment alt.new) (D.reads alt.old) (D.reads alt.new) (D.images alt.old) (D.images alt.new) }
+    ensures only { (IsErrOf result JournalError.Worn → ⊥) × ((at : ℕ) → IsErrOf result (JournalError.Damaged at) → ⊥) }
     ensures later { (D.faults main.old ≤ D.faults main.new) × (D.faults alt.old ≤ D.faults alt.new) }
     ensures fault { IsErrOf result JournalError.Fault → Rose (D.faults main.old) (D.faults main.new) ⊎ Rose (D.faults alt.old) (D.faults alt.new) }
     ensures tells { (D.tells main.new ≡ D.tells main.old) × (D.tells alt.new ≡ D.tells alt.old) }
@@ -106,10 +110,13 @@ pub fn choose<D: Disk>(pair: Pair<D>) -> Result<Chosen<D>, (Pair<D>, JournalErro
     ensures chosen { IsTrue (D.tells pair.main) → IsTrue (D.tells pair.alt) → IfOk result (λ c. IsChosen (D.reads pair.main) (D.reads pair.alt) c.is_alt c.version c.generation) }
     ensures main_settled { IsTrue (D.tells pair.main) → IsTrue (D.tells pair.alt) → IfOk result (λ c. let main = (if c.is_alt then c.other else c.current) in IsSettled (D.moment pair.main) (D.moment main) (D.reads pair.main) (D.reads main) (D.images pair.main) (D.images main)) }
     ensures alt_settled { IsTrue (D.tells pair.main) → IsTrue (D.tells pair.alt) → IfOk result (λ c. let alt = (if c.is_alt then c.current else c.other) in IsSettled (D.moment pair.alt) (D.moment alt) (D.reads pair.alt) (D.reads alt) (D.images pair.alt) (D.images alt)) }
+    ensures crash { IsTrue (D.tells pair.main) → IsTrue (D.tells pair.alt) → MatchResult result (λ c. let main = (if c.is_alt then c.other else c.current) in let alt = (if c.is_alt then c.current else c.other) in SinceSynced (D.moment pair.main) (D.moment main) (D.moment pair.alt) (D.moment alt) (D.reads pair.main) (D.reads pair.alt) (D.images main) (D.images alt)) (λ e. e.1 ≡ JournalError.Foreign → SinceSynced (D.moment pair.main) (D.moment e.0.main) (D.moment pair.alt) (D.moment e.0.alt) (D.reads pair.main) (D.reads pair.alt) (D.images e.0.main) (D.images e.0.alt)) }
+    ensures rests { IsTrue (D.tells pair.main) → IsTrue (D.tells pair.alt) → IfOk result (λ c. IsAtRest c.is_alt c.generation (D.reads c.current) (D.reads c.other) (D.images c.current (D.moment c.current)) (D.images c.other (D.moment c.other))) }
     ensures main_same { IfOk result (λ c. let main = (if c.is_alt then c.other else c.current) in (D.faults pair.main ≤ D.faults main) × (D.tells main ≡ D.tells pair.main) × (D.takes_memory main ≡ D.takes_memory pair.main)) }
     ensures alt_same { IfOk result (λ c. let alt = (if c.is_alt then c.current else c.other) in (D.faults pair.alt ≤ D.faults alt) × (D.tells alt ≡ D.tells pair.alt) × (D.takes_memory alt ≡ D.takes_memory pair.alt)) }
     ensures same { IfErr result (λ e. (D.faults pair.main ≤ D.faults e.0.main) × (D.tells e.0.main ≡ D.tells pair.main) × (D.faults pair.alt ≤ D.faults e.0.alt) × (D.tells e.0.alt ≡ D.tells pair.alt)) }
     ensures refused { IsTrue (D.tells pair.main) → IsTrue (D.tells pair.alt) → IfErr result (λ e. RefusedKinds e.1 (D.reads pair.main) (D.reads pair.alt)) }
+    ensures only { IfErr result (λ e. (e.1 ≡ JournalError.Worn → ⊥) × ((at : ℕ) → e.1 ≡ JournalError.Damaged at → ⊥)) }
     ensures main_looked { IsTrue (D.tells pair.main) → IsTrue (D.tells pair.alt) → IfErr result (λ e. Looked (D.moment pair.main) (D.moment e.0.main) (D.reads pair.main) (D.reads e.0.main) (D.images pair.main) (D.images e.0.main)) }
     ensures alt_looked { IsTrue (D.tells pair.main) → IsTrue (D.tells pair.alt) → IfErr result (λ e. Looked (D.moment pair.alt) (D.moment e.0.alt) (D.reads pair.alt) (D.reads e.0.alt) (D.images pair.alt) (D.images e.0.alt)) }
     ensures fault { IfErr result (λ e. e.1 ≡ JournalError.Fault → Rose (D.faults pair.main) (D.faults e.0.main) ⊎ Rose (D.faults pair.alt) (D.faults e.0.alt)) }
