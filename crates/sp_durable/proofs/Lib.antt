@@ -1,0 +1,12 @@
+pub mod InOrder
+pub mod Merging
+pub mod Fates
+pub mod Owners
+pub mod Alike
+pub mod Staying
+pub mod Batches
+pub mod Leaving
+pub mod Members
+pub mod Passing
+pub mod Calling
+pub mod Counting
