@@ -1,0 +1,7 @@
+mod EachMark
+mod InPlace
+mod Overs
+mod Ready
+mod Puts
+mod Meetings
+mod PartWants

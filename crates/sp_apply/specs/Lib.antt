@@ -1,0 +1,3 @@
+pub mod Noted
+pub mod Acting
+pub mod Given

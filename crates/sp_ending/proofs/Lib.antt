@@ -1,0 +1,10 @@
+pub mod Rising
+pub mod Newly
+pub mod Turns
+pub mod Departures
+pub mod Counted
+pub mod Standing
+pub mod Taking
+pub mod Batches
+pub mod Opposition
+pub mod Removed

@@ -1,0 +1,8 @@
+use Rattle.sp_state.specs.Held.{kernel_of}
+use Rattle.sp_requests.proofs.Needed.{put-needs}
+use Rattle.sp_requests.proofs.needing.put_needs.Goals as goal
+
+pub returns : goal.returns
+returns c =
+    put-needs (kernel_of c.args.state.now) c.args.seat.now c.args.added.now c.number.result c.in_ok-entry.entry c.in_ok-plan.plan c.choose_leaf-chosen.result c.searches.result.now c.in_ok-commit.commit c.in_ok-short.short
+    c.number.ensures c.searches.ensures c.requires.adding c.in_ok-entry.ensures c.in_ok-plan.ensures.inserted c.choose_leaf-chosen.ensures c.in_ok-commit.ensures c.in_ok-short.ensures
