@@ -1,11 +1,5 @@
-pub mod State
-pub mod Refusals
-pub mod Moves
-pub mod Plans
-pub mod Stepped
-pub mod Soundness
-pub mod Opening
-pub mod Runs
-pub mod Removal
-pub mod Unmarked
-pub mod Places
+pub mod Whole
+pub mod Answers
+pub mod Following
+pub mod Standing
+pub mod Starting

@@ -1,19 +1,13 @@
-//! The kernel of a transactional server of rectangles with records: its state, and what one event makes of it.
+//! The kernel of a transactional server of rectangles with records: one event after the other, each an atomic step,
+//! over a disk that may stop at any moment.
 #![tactic(auto)]
 
-mod ending;
-mod events;
-mod opening;
-mod operations;
-mod requests;
-mod session;
+mod acting;
+mod committing;
+mod flushing;
+mod kernel;
+mod laws;
+mod proceeding;
 
-pub use ending::{
-    commits_keep_sound, ends_change_marked_entries, flushes_keep_sound,
-    placed_sessions_are_told_their_places, removals_keep_sound, rollbacks_keep_sound,
-};
-pub use events::{every_event_keeps_sound, every_run_is_serial};
-pub use opening::opened_is_sound;
-pub use operations::operations_keep_sound;
-pub use requests::{begins_keep_sound, plans_keep_sound, requests_keep_sound};
-pub use session::{Session, Stage};
+pub use kernel::{Kernel, StartError};
+pub use laws::{every_answer_keeps_sound, every_history_is_serial};
