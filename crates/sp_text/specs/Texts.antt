@@ -1,5 +1,5 @@
 -- The texts of answers, as one table: what stands on the lines of each.
-use Rattle.std.specs.Prelude.{ℕ, Bool, List, [], ◌∷◌, ◌++◌, length, map, codes, decimal, if◌then◌else◌}
+use Rattle.std.specs.Prelude.{ℕ, List, [], ◌∷◌, ◌++◌, length, map, Option, Some, None, codes, decimal, if◌then◌else◌}
 use Rattle.std.specs.Fmt.{signed_decimal}
 use Rattle.std.specs.List.{flat_map}
 use Rattle.sp_rect.specs.Plane.{Rectangle}
@@ -20,9 +20,11 @@ use Rattle.sp_event.specs.declared.answer.Answer.{Answer}
 use Rattle.sp_event.specs.declared.answer.Answer.TheVariants.{Began, Started, Granted, Planned, Reply as Replied, Committed, Queued, RolledBack, Waits, Deadlock, Still, LatchBusy, Refused, Full, Wrote, Durable, Nothing, Removed, Later, Stopped, DiskFault, Memory}
 use Rattle.sp_text.specs.Names.{session_word, mode_word, name_words}
 use Rattle.sp_text.specs.declared.form.Form.{Form}
-use Rattle.sp_text.specs.declared.form.Form.TheVariants.{Play, Drill, Session}
+use Rattle.sp_text.specs.declared.form.Form.TheVariants.{Session}
 use Rattle.sp_text.specs.declared.form.Lead.{Lead}
 use Rattle.sp_text.specs.declared.form.Lead.TheVariants.{Named, Nobody, Kernel}
+use Rattle.sp_text.specs.declared.types.Bad.{Bad as Reason}
+use Rattle.sp_text.specs.declared.types.Bad.TheVariants.{Long, Session as SessionWord, Command as CommandWord, Words, Number, Rect, Value}
 use Rattle.sp_text.specs.declared.types.Item.{Item}
 use Rattle.sp_text.specs.declared.types.Item.TheVariants.{Bad, Told, Stepped}
 
@@ -108,6 +110,20 @@ answer_words form (Stopped offset) = []
 answer_words form DiskFault = []
 answer_words form Memory = []
 
+-- the session of a bad line, where it can be read
+abbrev pub lead_of_session : Option ℕ → Lead
+lead_of_session (Some session) = Named session
+lead_of_session None = Nobody
+
+abbrev pub bad_words : Reason → List ℕ
+bad_words Long = codes "bad long"
+bad_words SessionWord = codes "bad session"
+bad_words CommandWord = codes "bad command"
+bad_words Words = codes "bad words"
+bad_words Number = codes "bad number"
+bad_words Rect = codes "bad rect"
+bad_words Value = codes "bad value"
+
 -- whose line it is: a session's, that of a line which names none, or that of an event of no session
 abbrev pub lead_of_event : Event → Lead
 lead_of_event (Begin s) = Named s
@@ -133,7 +149,7 @@ unfoldable pub line_text : List ℕ → List ℕ → List ℕ
 line_text lead words = lead ++ words ++ codes "\n"
 
 unfoldable pub item_text : Form → Item → List ℕ
-item_text form (Bad session bad) = line_text (lead_words form Nobody) (codes "bad line")
+item_text form (Bad session bad) = line_text (lead_words form (lead_of_session session)) (bad_words bad)
 item_text form (Told session command answer late) = flat_map (line_text (lead_words form (Named session))) (answer_words form answer)
 item_text form (Stepped event answer late) = flat_map (line_text (lead_words form (lead_of_event event))) (answer_words form answer)
 

@@ -1,6 +1,7 @@
 // The names of sessions, locks and modes.
-ghost use Rattle.std.specs.Prelude.{◌≡◌, ◌<◌, ◌++◌, OnOk};
-ghost use Rattle.sp_text.specs.Names.{digits_word, script_name, session_word, mode_word, name_words};
+ghost use Rattle.std.specs.Prelude.{◌≡◌, ◌<◌, ◌++◌, ◌&&◌, nat_le, IfSome, OnOk};
+ghost use Rattle.sp_text.specs.Numbers.{is_decimal_digit};
+ghost use Rattle.sp_text.specs.Names.{digits_word, digits_count, session_of, script_name, session_word, mode_word, name_words};
 
 use crate::Form;
 use sp_locks::{Mode, Name, SessionId};
@@ -56,6 +57,60 @@ fn push_digits(text: &mut Text, digits: u8) -> Result<(), AllocError>
         text.push_byte(b'0' + (digits - 11) / 10)?;
         text.push_byte(b'0' + (digits - 11) % 10)
     }
+}
+
+// The session that the word names in a script: a letter, and no, one or two digits.
+pub(crate) fn session_of(word: &[u8]) -> Option<SessionId>
+    ensures session { result ≡ session_of word.now }
+    ensures known { IfSome result (λ s. s < 2886) }
+    ensures named { IfSome result (λ s. word.now ≡ script_name s) }
+{
+    match word {
+        [letter, digits @ ..] => {
+            if !is_letter(*letter) {
+                return None;
+            }
+            let count = digits_count(digits)?;
+            Some(NAMES_A_LETTER * u32::from(*letter - b'A') + u32::from(count))
+        }
+        [] => None,
+    }
+}
+
+fn digits_count(digits: &[u8]) -> Option<u8>
+    ensures count { result ≡ digits_count digits.now }
+    ensures small { IfSome result (λ k. k < 111) }
+{
+    match digits {
+        [] => Some(0),
+        [digit] => {
+            if is_digit(*digit) {
+                Some(1 + (*digit - b'0'))
+            } else {
+                None
+            }
+        }
+        [tens, ones] => {
+            if is_digit(*tens) & is_digit(*ones) {
+                Some(11 + (10 * (*tens - b'0') + (*ones - b'0')))
+            } else {
+                None
+            }
+        }
+        _ => None,
+    }
+}
+
+fn is_letter(byte: u8) -> bool
+    ensures { result ≡ (nat_le 65 byte && nat_le byte 90) }
+{
+    b'A' <= byte && byte <= b'Z'
+}
+
+fn is_digit(byte: u8) -> bool
+    ensures { result ≡ is_decimal_digit byte }
+{
+    b'0' <= byte && byte <= b'9'
 }
 
 // The word of a mode.

@@ -2,14 +2,14 @@
 ghost use Rattle.std.specs.Prelude.{◌≡◌, ◌++◌, [], ◌∷◌, IfOk, OnOk, map, decimal, codes, length, if◌then◌else◌};
 ghost use Rattle.std.specs.List.{flat_map};
 ghost use Rattle.sp_text.specs.Names.{session_word, mode_word, name_words};
-ghost use Rattle.sp_text.specs.Texts.{spaced, record_words, edge_words, wait_words, holder_words, later_words, durable_words, why_words, kind_words, reply_words, answer_words, line_text, lead_words, lead_of_event, item_text, render};
+ghost use Rattle.sp_text.specs.Texts.{spaced, record_words, edge_words, wait_words, holder_words, later_words, durable_words, why_words, kind_words, reply_words, answer_words, line_text, lead_words, lead_of_session, lead_of_event, bad_words, item_text, render};
 
 use crate::names::{push_name, push_session};
 use crate::words::{
     push_corners, push_lead, push_line, push_numbered, push_spaced, push_spaced_mode,
     push_spaced_name, push_spaced_number, push_spaced_session,
 };
-use crate::{Form, Item, Items, Lead};
+use crate::{Bad, Form, Item, Items, Lead};
 use sp_event::{Answer, Event, Kind, Why};
 use sp_locks::{Mode, Name, SessionId, Sessions};
 use sp_rect::{Record, Records, Reply, Text};
@@ -33,7 +33,12 @@ pub fn push_item(text: &mut Text, item: &Item, form: Form) -> Result<(), AllocEr
     ensures { OnOk result (text.new ≡ text.old ++ item_text form item.now) }
 {
     match item {
-        Item::Bad { .. } => push_line(text, form, Lead::Nobody, "bad line"),
+        Item::Bad { session, bad } => push_line(
+            text,
+            form,
+            lead_of_session(*session),
+            bad_words(*bad),
+        ),
         Item::Told {
             session,
             answer,
@@ -45,6 +50,29 @@ pub fn push_item(text: &mut Text, item: &Item, form: Form) -> Result<(), AllocEr
             lead_of_event(event),
             answer,
         ),
+    }
+}
+
+fn lead_of_session(session: Option<SessionId>) -> Lead
+    ensures { result ≡ lead_of_session session }
+{
+    match session {
+        Some(session) => Lead::Named(session),
+        None => Lead::Nobody,
+    }
+}
+
+fn bad_words(bad: Bad) -> &'static str
+    ensures { result.now ≡ bad_words bad }
+{
+    match bad {
+        Bad::Long => "bad long",
+        Bad::Session => "bad session",
+        Bad::Command => "bad command",
+        Bad::Words => "bad words",
+        Bad::Number => "bad number",
+        Bad::Rect => "bad rect",
+        Bad::Value => "bad value",
     }
 }
 
