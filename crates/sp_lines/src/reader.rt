@@ -1,0 +1,176 @@
+// A reader that takes the lines of a source one by one.
+ghost use Rattle.std.specs.Prelude.{◌≡◌, ◌≤◌, ◌<◌, ◌+◌, ◌^◌, ℕ, List, [], ◌∷◌, ◌++◌, Option, true, false, IfOk, length, if◌then◌else◌};
+ghost use Rattle.std.specs.Str.Lines.{strip_carriage_return};
+ghost use Rattle.sp_io.specs.Faults.{Rose};
+ghost use Rattle.sp_text.specs.Lines.{is_blank};
+ghost use Rattle.sp_lines.specs.Cutting.{kept_more, cut_after, answered};
+ghost use Rattle.sp_lines.specs.Taking.{line_of, CutsTo, HasTaken, IsTaken, ComesTo};
+
+use crate::chunk::{Chunk, Filled};
+use sp_io::Source;
+use sp_rect::Text;
+use std::alloc::{AllocError, Global};
+
+/// How many bytes of a line are kept: a longer one is bad or blank whatever follows.
+const KEPT: usize = 514;
+
+/// What a reader came to.
+#[derive(Clone, Copy, Debug, PartialEq, Eq)]
+pub enum Next {
+    /// A line that is not blank.
+    Line,
+    /// The same, and the source has ended behind it.
+    Last,
+    /// The end of the source.
+    End,
+    /// The source failed.
+    Failed,
+    /// As much was read as is read at most, and the source has not ended.
+    Long,
+    /// There was no memory.
+    Memory,
+}
+
+/// Takes the lines of a source. A line comes without its LF and one CR before that; of more than 514
+/// bytes only the first 514 are kept; blank ones are passed over.
+#[derive(Drop)]
+pub struct LineReader {
+    pub(crate) chunk: Chunk,
+    pub(crate) line: Text,
+    pub(crate) ended: bool,
+}
+
+impl LineReader {
+    /// Before the first line. Takes no memory.
+    pub fn new(alloc: Global) -> LineReader
+        ensures bytes { result.chunk.bytes ≡ [] }
+        ensures room { result.chunk.room ≡ 2 ^ 32 }
+    {
+        LineReader {
+            chunk: Chunk::new(),
+            line: Text::new(alloc),
+            ended: false,
+        }
+    }
+
+    /// The line that was taken last.
+    pub fn line(&self) -> &[u8]
+        ensures { result.now ≡ line_of self.now.ended self.now.line }
+    {
+        if self.ended {
+            self.line.bytes()
+        } else {
+            without_return(self.line.bytes())
+        }
+    }
+
+    /// Takes the next line that is not blank, and asks the source only where no further line has ended.
+    /// `Failed` comes only where the count of the source rose, and `Long` only where `MAX_INPUT` bytes were
+    /// read. What is said of the lines holds where each call before answered `Line`. Costs the bytes that
+    /// are cut, and takes memory for the line.
+    pub fn next<S: Source>(&mut self, source: &mut S) -> Next
+        ensures comes { (start : Option (List ℕ)) (lines : List (List ℕ)) → HasTaken start (S.left source.old) self.old.chunk [] lines
+            → ComesTo result start (S.left source.new) self.new.chunk (line_of self.new.ended self.new.line) lines }
+        ensures spoken { IsTaken result → is_blank (line_of self.new.ended self.new.line) ≡ false }
+        ensures fewer { result ≡ Next.Line → self.new.chunk.room + length self.new.chunk.bytes < self.old.chunk.room + length self.old.chunk.bytes }
+        ensures failed { result ≡ Next.Failed → Rose (S.read_faults source.old) (S.read_faults source.new) }
+        ensures later { S.read_faults source.old ≤ S.read_faults source.new }
+    {
+        self.ended = false;
+        self.line.clear();
+        loop {
+            match self.cut() {
+                Ok(true) => return Next::Line,
+                Ok(false) => {}
+                Err(_) => return Next::Memory,
+            }
+            match self.chunk.fill(source) {
+                Filled::Bytes => {}
+                Filled::End => return self.last(),
+                Filled::Failed => return Next::Failed,
+                Filled::Full => return Next::Long,
+            }
+        }
+    }
+
+    // What is kept of a line where the source has ended is the last line, if it is not blank.
+    fn last(&mut self) -> Next
+        ensures last { result ≡ (if is_blank self.old.line then Next.End else Next.Last) }
+        ensures line { self.new.line ≡ self.old.line }
+        ensures ended { self.new.ended ≡ true }
+        ensures chunk { self.new.chunk ≡ self.old.chunk }
+    {
+        self.ended = true;
+        if is_blank(self.line.bytes()) {
+            Next::End
+        } else {
+            Next::Last
+        }
+    }
+
+    // Cuts the bytes that are pending, up to a line that is not blank.
+    fn cut(&mut self) -> Result<bool, AllocError>
+        ensures cut { IfOk result (λ found. CutsTo found self.old.chunk.bytes self.new.chunk.bytes self.old.line self.new.line) }
+        ensures spoken { IfOk result (λ found. found ≡ true → is_blank (strip_carriage_return self.new.line) ≡ false) }
+        ensures fewer { IfOk result (λ found. found ≡ true → length self.new.chunk.bytes < length self.old.chunk.bytes) }
+        ensures room { self.new.chunk.room ≡ self.old.chunk.room }
+        ensures ended { self.new.ended ≡ self.old.ended }
+    {
+        while let Some(byte) = self.chunk.next_byte() {
+            if cut_byte(&mut self.line, byte)? {
+                return Ok(true);
+            }
+        }
+        Ok(false)
+    }
+}
+
+// Adds a byte to what is kept of a line. It tells whether a line that is not blank has ended, which is
+// then the line; where a blank one has ended, it is empty.
+#[tactic(auto, unfolding(crate::specs::Cutting::cut_more))]
+fn cut_byte(line: &mut Text, byte: u8) -> Result<bool, AllocError>
+    ensures lines { IfOk result (λ found. answered (cut_after line.old (byte ∷ [])).lines ≡ (if found then strip_carriage_return line.new ∷ [] else [])) }
+    ensures spoken { IfOk result (λ found. found ≡ true → is_blank (strip_carriage_return line.new) ≡ false) }
+    ensures rest { IfOk result (λ found. (cut_after line.old (byte ∷ [])).rest ≡ (if found then [] else line.new)) }
+{
+    if byte != b'\n' {
+        keep_byte(line, byte)?;
+        return Ok(false);
+    }
+    if is_blank(without_return(line.bytes())) {
+        line.clear();
+        return Ok(false);
+    }
+    Ok(true)
+}
+
+// Adds a byte to what is kept of a line.
+#[tactic(auto, unfolding(crate::specs::Cutting::kept_more))]
+fn keep_byte(line: &mut Text, byte: u8) -> Result<(), AllocError>
+    ensures kept { IfOk result (λ _. line.new ≡ kept_more line.old byte) }
+{
+    if line.bytes().len() < KEPT {
+        line.push_byte(byte)?;
+    }
+    Ok(())
+}
+
+// The line without one CR at its end.
+fn without_return(line: &[u8]) -> &[u8]
+    ensures { result.now ≡ strip_carriage_return line.now }
+{
+    match line {
+        [front @ .., b'\r'] => front,
+        _ => line,
+    }
+}
+
+// Whether the line is empty or a comment.
+fn is_blank(line: &[u8]) -> bool
+    ensures { result ≡ is_blank line.now }
+{
+    match line {
+        [] => true,
+        [first, ..] => *first == b'#',
+    }
+}
