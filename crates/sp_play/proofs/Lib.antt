@@ -1,8 +1,5 @@
-pub mod Goes
-pub mod CutLines
+pub mod Laws
+pub mod Answers
 pub mod Serial
-pub mod Whole
-pub mod Pieces
-pub mod Stops
 pub mod Ends
 pub mod Counts

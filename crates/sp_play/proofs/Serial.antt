@@ -1,5 +1,5 @@
--- The transactions that a session commits are serial.
-use Rattle.std.proofs.Common.{◌≡◌, ℕ, ◌+◌, ◌<◌, ◌≤◌, not, cond, eqb, List, [], ◌∷◌, ◌++◌, map, fold, length, length-append, Option, Some, None, refl, sym, ap, ◌∙◌, subst, arith}
+-- The transactions that sessions commit are serial.
+use Rattle.std.proofs.Common.{◌≡◌, ℕ, ◌+◌, ◌<◌, ◌≤◌, Bool, true, false, not, cond, eqb, List, [], ◌∷◌, ◌++◌, map, fold, length, length-append, Option, Some, None, refl, sym, ap, ◌∙◌, subst, arith}
 use Rattle.sp_rect.specs.Store.{replied, after}
 use Rattle.sp_rect.specs.Serial.{records_after, RepliesAsPlain, after_all, SerialFrom, Serial}
 use Rattle.sp_rect.specs.declared.operation.Answered.{Answered}
@@ -7,11 +7,15 @@ use Rattle.sp_rect.specs.declared.commit.Commit.{Commit}
 use Rattle.sp_rect.specs.declared.record.Record.{Record}
 use Rattle.sp_rect.specs.declared.operation.Op.{Op}
 use Rattle.sp_text.specs.Transcripts.{Ledger, of_others, of_session, with_pair, with_place, noted, note, committed}
+use Rattle.std.proofs.lemmas.Bool.Decides.{nat_tests}
+use Rattle.sp_event.specs.declared.answer.Answer.TheVariants.{Reply, Committed, RolledBack, Refused, Full}
+use Rattle.sp_event.specs.declared.answer.Why.TheVariants.{InTxn}
+use Rattle.sp_event.specs.declared.answer.Kind.TheVariants.{Transactions}
 use Rattle.sp_text.specs.declared.types.Command.{Command}
 use Rattle.sp_text.specs.declared.types.Command.TheVariants.{Begin, Do, Commit as CommitIt, Rollback}
 use Rattle.sp_text.specs.declared.types.Item.{Item}
 use Rattle.sp_text.specs.declared.types.Item.TheVariants.{Bad, Told, Stepped}
-use Rattle.sp_play.specs.Session.{State, Plays, step, start, begun, done, committed_at, rolled_back}
+use Rattle.sp_play.specs.Session.{State, Current, view_of, Plays, step, start, begun, done, committed_at, rolled_back}
 
 -- one step more
 records_after-push : (records : List Record) (steps : List Answered) (s : Answered) → records_after records (steps ++ s ∷ []) ≡ after s.op (records_after records steps)
@@ -36,120 +40,157 @@ serial-push n records (x ∷ commits) c h e lt r =
     (h.0, h.1, h.2, serial-push (n + 1) (records_after records x.ops) commits c h.3 (omega arith) lt r)
 
 -- the open transaction of the ledger is that of the state
-abbrev IsOpen : List Record → ℕ → List Commit → Option (List Record) → Type 0
+abbrev IsOpen : List Record → ℕ → List Commit → Option Current → Type 0
 IsOpen records places [] None = Unit {0}
-IsOpen records places (c ∷ []) (Some view) = (c.session ≡ 0) × (c.seen ≤ places) × RepliesAsPlain records c.ops × (view ≡ records_after records c.ops)
+IsOpen records places (c ∷ []) (Some o) = (c.session ≡ o.session) × (c.seen ≤ places) × RepliesAsPlain records c.ops × (o.view ≡ records_after records c.ops)
 IsOpen records places _ _ = ⊥
 
 record Kept (l : Ledger) (s : State) : Type 0 where
   serial : Serial [] l.done
   places : s.places ≡ length l.done
   records : s.records ≡ after_all [] l.done
-  opened : IsOpen s.records s.places l.pending s.view
+  opened : IsOpen s.records s.places l.pending s.current
 
-others_nil : of_others 0 [] ≡ []
+others_nil : (u : ℕ) → of_others u [] ≡ []
 unfolding of_others
-others_nil = refl
+others_nil u = refl
 
-others_one : (c : Commit) → c.session ≡ 0 → of_others 0 (c ∷ []) ≡ []
+same_session : (a b : ℕ) → a ≡ b → eqb a b ≡ true
+same_session a b e = grind (arith, nat_tests)
+
+is_session : (a b c : ℕ) → a ≡ b → eqb b c ≡ true → a ≡ c
+is_session a b c e t = let f : b ≡ c = grind (arith, nat_tests) in e ∙ f
+
+others_one : (u : ℕ) (c : Commit) → c.session ≡ u → of_others u (c ∷ []) ≡ []
 unfolding of_others
-others_one c e = ap (λ n. cond (not (eqb n 0)) (c ∷ []) []) e
+others_one u c e = ap (λ b. cond (not b) (c ∷ []) []) (same_session c.session u e)
 
-sessions_one : (c : Commit) → c.session ≡ 0 → of_session 0 (c ∷ []) ≡ c ∷ []
+sessions_one : (u : ℕ) (c : Commit) → c.session ≡ u → of_session u (c ∷ []) ≡ c ∷ []
 unfolding of_session
-sessions_one c e = ap (λ n. cond (eqb n 0) (c ∷ []) []) e
+sessions_one u c e = ap (λ b. cond b (c ∷ []) []) (same_session c.session u e)
 
 along : {A : Type 0} (P : A → Type 0) (x y : A) → x ≡ y → P y → P x
 along P x y e h = subst P (sym e) h
 
-begin_kept : (l : Ledger) (s : State) (p : List Commit) (v : Option (List Record)) → l.pending ≡ p → s.view ≡ v
-    → IsOpen s.records s.places p v → Kept l s → Kept (noted l 0 Begin (begun s v).answer) (begun s v).state
-begin_kept l s [] None e f o k = record {
+begin_kept : (l : Ledger) (s : State) (u : ℕ) (p : List Commit) (v : Option Current) → l.pending ≡ p
+    → IsOpen s.records s.places p v → Kept l s → Kept (noted l u Begin (begun s u v).answer) (begun s u v).state
+begin_kept l s u [] None e o k = record {
   serial = k.serial;
   places = k.places;
   records = k.records;
-  opened = along (λ x. IsOpen s.records s.places (record { session = 0; txn = s.txns + 1; seen = s.places; place = 0; ops = [] } ∷ x) (Some s.records)) _ _
-      (ap (of_others 0) e ∙ others_nil) (refl, omega arith, tt, refl);
+  opened = along (λ x. IsOpen s.records s.places (record { session = u; txn = s.txns + 1; seen = s.places; place = 0; ops = [] } ∷ x) (Some (record { session = u; view = s.records }))) _ _
+      (ap (of_others u) e ∙ others_nil u) (refl, omega arith, tt, refl);
 }
-begin_kept l s [] (Some v) e f o k = absurd o
-begin_kept l s (c ∷ []) None e f o k = absurd o
-begin_kept l s (c ∷ []) (Some v) e f o k = k
-begin_kept l s (c ∷ d ∷ p) None e f o k = absurd o
-begin_kept l s (c ∷ d ∷ p) (Some v) e f o k = absurd o
+begin_kept l s u [] (Some v) e o k = absurd o
+begin_kept l s u (c ∷ []) None e o k = absurd o
+begin_kept l s u (c ∷ []) (Some v) e o k = by_test (eqb v.session u)
+  where
+    by_test : (b : Bool) → Kept (noted l u Begin (cond b (Refused InTxn) (Full Transactions))) s
+    by_test true = k
+    by_test false = k
+begin_kept l s u (c ∷ d ∷ p) None e o k = absurd o
+begin_kept l s u (c ∷ d ∷ p) (Some v) e o k = absurd o
 
-do_kept : (l : Ledger) (s : State) (op : Op) (p : List Commit) (v : Option (List Record)) → l.pending ≡ p → s.view ≡ v
-    → IsOpen s.records s.places p v → Kept l s → Kept (noted l 0 (Do op) (done s op v).answer) (done s op v).state
-do_kept l s op [] None e f o k = k
-do_kept l s op [] (Some v) e f o k = absurd o
-do_kept l s op (c ∷ []) None e f o k = absurd o
-do_kept l s op (c ∷ []) (Some v) e f o k =
-    let st : Answered = record { op = op; reply = replied op v } in
-    let q : map (with_pair st) (of_session 0 l.pending) ++ of_others 0 l.pending ≡ with_pair st c ∷ [] =
-    ap (λ x. map (with_pair st) (of_session 0 x) ++ of_others 0 x) e
-    ∙ ap (λ x. map (with_pair st) x ++ of_others 0 (c ∷ [])) (sessions_one c o.0)
-    ∙ ap (λ x. with_pair st c ∷ x) (others_one c o.0) in
-    record {
-      serial = k.serial;
-      places = k.places;
-      records = k.records;
-      opened = along (λ x. IsOpen s.records s.places x (Some (after op v))) _ _ q (
-        o.0,
-        o.1,
-        replies-push s.records c.ops st o.2 (ap (λ r. replied op r) o.3),
-        ap (λ r. after op r) o.3 ∙ sym (records_after-push s.records c.ops st),
-      );
-    }
-do_kept l s op (c ∷ d ∷ p) None e f o k = absurd o
-do_kept l s op (c ∷ d ∷ p) (Some v) e f o k = absurd o
+-- an operation, a commit and a rollback of the session whose transaction is open
+module _ (l : Ledger) (s : State) (u : ℕ) (c : Commit) (view : List Record) (e : l.pending ≡ c ∷ []) (own : c.session ≡ u) (seen : c.seen ≤ s.places)
+    (told : RepliesAsPlain s.records c.ops) (same : view ≡ records_after s.records c.ops) (k : Kept l s) where
+  do_own : (op : Op) → Kept (noted l u (Do op) (Reply (replied op view))) (record s { current = Some (record { session = u; view = after op view }) })
+  do_own op =
+      let st : Answered = record { op = op; reply = replied op view } in
+      let q : map (with_pair st) (of_session u l.pending) ++ of_others u l.pending ≡ with_pair st c ∷ [] =
+      ap (λ x. map (with_pair st) (of_session u x) ++ of_others u x) e
+      ∙ ap (λ x. map (with_pair st) x ++ of_others u (c ∷ [])) (sessions_one u c own)
+      ∙ ap (λ x. with_pair st c ∷ x) (others_one u c own) in
+      record {
+        serial = k.serial;
+        places = k.places;
+        records = k.records;
+        opened = along (λ x. IsOpen s.records s.places x (Some (record { session = u; view = after op view }))) _ _ q (
+          own,
+          seen,
+          replies-push s.records c.ops st told (ap (λ r. replied op r) same),
+          ap (λ r. after op r) same ∙ sym (records_after-push s.records c.ops st),
+        );
+      }
 
-commit_kept : (l : Ledger) (s : State) (p : List Commit) (v : Option (List Record)) → l.pending ≡ p → s.view ≡ v
-    → IsOpen s.records s.places p v → Kept l s → Kept (noted l 0 CommitIt (committed_at s v).answer) (committed_at s v).state
-commit_kept l s [] None e f o k = k
-commit_kept l s [] (Some v) e f o k = absurd o
-commit_kept l s (c ∷ []) None e f o k = absurd o
-commit_kept l s (c ∷ []) (Some v) e f o k =
-    let d : Commit = with_place (s.places + 1) c in
-    let q : l.done ++ map (with_place (s.places + 1)) (of_session 0 l.pending) ≡ l.done ++ d ∷ [] =
-    ap (λ x. l.done ++ map (with_place (s.places + 1)) x) (ap (of_session 0) e ∙ sessions_one c o.0) in
-    let P : List Record → Type 0 = λ r. RepliesAsPlain r c.ops in
-    record {
-      serial = along (Serial []) _ _ q (serial-push 0 [] l.done d k.serial (omega (arith, k.places)) (omega (arith, o.1)) (subst P k.records o.2));
-      places = omega (arith, k.places, ap length q, length-append l.done (d ∷ []));
-      records = o.3 ∙ ap (λ r. records_after r c.ops) k.records ∙ sym (after_all-push [] l.done d) ∙ ap (after_all []) (sym q);
-      opened = along (λ x. IsOpen v (s.places + 1) x None) _ _ (ap (of_others 0) e ∙ others_one c o.0) tt;
-    }
-commit_kept l s (c ∷ d ∷ p) None e f o k = absurd o
-commit_kept l s (c ∷ d ∷ p) (Some v) e f o k = absurd o
+  commit_own : Kept (noted l u CommitIt (Committed (s.places + 1))) (record s { records = view; current = None; places = s.places + 1 })
+  commit_own =
+      let d : Commit = with_place (s.places + 1) c in
+      let q : l.done ++ map (with_place (s.places + 1)) (of_session u l.pending) ≡ l.done ++ d ∷ [] =
+      ap (λ x. l.done ++ map (with_place (s.places + 1)) x) (ap (of_session u) e ∙ sessions_one u c own) in
+      let P : List Record → Type 0 = λ r. RepliesAsPlain r c.ops in
+      record {
+        serial = along (Serial []) _ _ q (serial-push 0 [] l.done d k.serial (omega (arith, k.places)) (omega (arith, seen)) (subst P k.records told));
+        places = omega (arith, k.places, ap length q, length-append l.done (d ∷ []));
+        records = same ∙ ap (λ r. records_after r c.ops) k.records ∙ sym (after_all-push [] l.done d) ∙ ap (after_all []) (sym q);
+        opened = along (λ x. IsOpen view (s.places + 1) x None) _ _ (ap (of_others u) e ∙ others_one u c own) tt;
+      }
 
-rollback_kept : (l : Ledger) (s : State) (p : List Commit) (v : Option (List Record)) → l.pending ≡ p → s.view ≡ v
-    → IsOpen s.records s.places p v → Kept l s → Kept (noted l 0 Rollback (rolled_back s v).answer) (rolled_back s v).state
-rollback_kept l s [] None e f o k = k
-rollback_kept l s [] (Some v) e f o k = absurd o
-rollback_kept l s (c ∷ []) None e f o k = absurd o
-rollback_kept l s (c ∷ []) (Some v) e f o k = record {
-  serial = k.serial;
-  places = k.places;
-  records = k.records;
-  opened = along (λ x. IsOpen s.records s.places x None) _ _ (ap (of_others 0) e ∙ others_one c o.0) tt;
-}
-rollback_kept l s (c ∷ d ∷ p) None e f o k = absurd o
-rollback_kept l s (c ∷ d ∷ p) (Some v) e f o k = absurd o
+  rollback_own : Kept (noted l u Rollback RolledBack) (record s { current = None })
+  rollback_own = record {
+    serial = k.serial;
+    places = k.places;
+    records = k.records;
+    opened = along (λ x. IsOpen s.records s.places x None) _ _ (ap (of_others u) e ∙ others_one u c own) tt;
+  }
 
-turn_kept : (l : Ledger) (s : State) (command : Command) → Kept l s → Kept (noted l 0 command (step s command).answer) (step s command).state
-turn_kept l s Begin k = begin_kept l s l.pending s.view refl refl k.opened k
-turn_kept l s (Do op) k = do_kept l s op l.pending s.view refl refl k.opened k
-turn_kept l s CommitIt k = commit_kept l s l.pending s.view refl refl k.opened k
-turn_kept l s Rollback k = rollback_kept l s l.pending s.view refl refl k.opened k
+-- the same of any session
+do_kept : (l : Ledger) (s : State) (u : ℕ) (op : Op) (p : List Commit) (v : Option Current) → l.pending ≡ p
+    → IsOpen s.records s.places p v → Kept l s → Kept (noted l u (Do op) (done s u op (view_of u v)).answer) (done s u op (view_of u v)).state
+do_kept l s u op [] None e o k = k
+do_kept l s u op [] (Some v) e o k = absurd o
+do_kept l s u op (c ∷ []) None e o k = absurd o
+do_kept l s u op (c ∷ []) (Some v) e o k = by_test (eqb v.session u) refl
+  where
+    by_test : (b : Bool) → eqb v.session u ≡ b → Kept (noted l u (Do op) (done s u op (cond b (Some v.view) None)).answer) (done s u op (cond b (Some v.view) None)).state
+    by_test true t = do_own l s u c v.view e (is_session _ _ _ o.0 t) o.1 o.2 o.3 k op
+    by_test false t = k
+do_kept l s u op (c ∷ d ∷ p) None e o k = absurd o
+do_kept l s u op (c ∷ d ∷ p) (Some v) e o k = absurd o
 
-plays_kept : (items : List Item) (l : Ledger) (s t : State) → Kept l s → Plays s items t → Serial [] (fold note l items).done
-plays_kept [] l s t k p = k.serial
-plays_kept (Bad session bad ∷ items) l s t k p = plays_kept items l s t k p
-plays_kept (Stepped event answer late ∷ items) l s t k p = absurd p
-plays_kept (Told session command answer late ∷ items) l s t k p =
-    along (λ x. Serial [] (fold note x items).done) _ _
-    (ap (λ n. noted l n command answer) p.0 ∙ ap (noted l 0 command) p.1)
-    (plays_kept items (noted l 0 command (step s command).answer) (step s command).state t (turn_kept l s command k) p.2)
+commit_kept : (l : Ledger) (s : State) (u : ℕ) (p : List Commit) (v : Option Current) → l.pending ≡ p
+    → IsOpen s.records s.places p v → Kept l s → Kept (noted l u CommitIt (committed_at s (view_of u v)).answer) (committed_at s (view_of u v)).state
+commit_kept l s u [] None e o k = k
+commit_kept l s u [] (Some v) e o k = absurd o
+commit_kept l s u (c ∷ []) None e o k = absurd o
+commit_kept l s u (c ∷ []) (Some v) e o k = by_test (eqb v.session u) refl
+  where
+    by_test : (b : Bool) → eqb v.session u ≡ b → Kept (noted l u CommitIt (committed_at s (cond b (Some v.view) None)).answer) (committed_at s (cond b (Some v.view) None)).state
+    by_test true t = commit_own l s u c v.view e (is_session _ _ _ o.0 t) o.1 o.2 o.3 k
+    by_test false t = k
+commit_kept l s u (c ∷ d ∷ p) None e o k = absurd o
+commit_kept l s u (c ∷ d ∷ p) (Some v) e o k = absurd o
 
--- what the session answers makes the transactions that it commits serial
-pub serial_from_plays : (items : List Item) (t : State) → Plays start items t → Serial [] (committed items)
-serial_from_plays items t p = plays_kept items (record { pending = []; done = [] }) start t (record { serial = tt; places = refl; records = refl; opened = tt }) p
+rollback_kept : (l : Ledger) (s : State) (u : ℕ) (p : List Commit) (v : Option Current) → l.pending ≡ p
+    → IsOpen s.records s.places p v → Kept l s → Kept (noted l u Rollback (rolled_back s (view_of u v)).answer) (rolled_back s (view_of u v)).state
+rollback_kept l s u [] None e o k = k
+rollback_kept l s u [] (Some v) e o k = absurd o
+rollback_kept l s u (c ∷ []) None e o k = absurd o
+rollback_kept l s u (c ∷ []) (Some v) e o k = by_test (eqb v.session u) refl
+  where
+    by_test : (b : Bool) → eqb v.session u ≡ b → Kept (noted l u Rollback (rolled_back s (cond b (Some v.view) None)).answer) (rolled_back s (cond b (Some v.view) None)).state
+    by_test true t = rollback_own l s u c v.view e (is_session _ _ _ o.0 t) o.1 o.2 o.3 k
+    by_test false t = k
+rollback_kept l s u (c ∷ d ∷ p) None e o k = absurd o
+rollback_kept l s u (c ∷ d ∷ p) (Some v) e o k = absurd o
+
+turn_kept : (l : Ledger) (s : State) (u : ℕ) (command : Command) → Kept l s → Kept (noted l u command (step s u command).answer) (step s u command).state
+turn_kept l s u Begin k = begin_kept l s u l.pending s.current refl k.opened k
+turn_kept l s u (Do op) k = do_kept l s u op l.pending s.current refl k.opened k
+turn_kept l s u CommitIt k = commit_kept l s u l.pending s.current refl k.opened k
+turn_kept l s u Rollback k = rollback_kept l s u l.pending s.current refl k.opened k
+
+plays_kept : (ended : Bool) (items : List Item) (l : Ledger) (s t : State) → Kept l s → Plays ended s items t → Serial [] (fold note l items).done
+plays_kept ended [] l s t k p = k.serial
+plays_kept ended (Bad session bad ∷ items) l s t k p = plays_kept ended items l s t k p
+plays_kept ended (Stepped event answer late ∷ items) l s t k p = absurd p
+plays_kept ended (Told session command answer true ∷ items) l s t k p =
+    along (λ x. Serial [] (fold note (noted l session command answer) x).done) _ _ p.2
+    (along (λ x. Serial [] (noted l session command x).done) _ _ p.3 (turn_kept l s session command k).serial)
+plays_kept ended (Told session command answer false ∷ items) l s t k p =
+    along (λ x. Serial [] (fold note x items).done) _ _ (ap (noted l session command) p.0)
+    (plays_kept ended items (noted l session command (step s session command).answer) (step s session command).state t (turn_kept l s session command k) p.1)
+
+-- what the store answers makes the transactions that it commits serial
+pub serial_from_plays : (ended : Bool) (items : List Item) (t : State) → Plays ended start items t → Serial [] (committed items)
+serial_from_plays ended items t p = plays_kept ended items (record { pending = []; done = []; started = [] }) start t (record { serial = tt; places = refl; records = refl; opened = tt }) p

@@ -1,67 +1,76 @@
-use Rattle.std.proofs.Common.{◌++◌, [], ◌∙◌, ap, sym, take, length-append, arith}
-use Rattle.std.proofs.lemmas.List.{length-take, length-take-le}
-use Rattle.sp_io.proofs.Known.{Consumes-more, Consumes-kept}
-use Rattle.sp_play.specs.Hearing.{cut_after}
-use Rattle.sp_play.proofs.CutLines.{cut_pieces_rest}
-use Rattle.sp_play.proofs.Pieces.{goes_piece, goes_end, stops_piece, stops_end, stopped}
+use Rattle.std.proofs.Common.{◌++◌, ◌∷◌, [], arith}
+use Rattle.sp_lines.specs.Taking.{line_of}
+use Rattle.sp_lines.proofs.Taking.{taken_none}
+use Rattle.sp_lines.proofs.Reading.{ended_run, failed_run, long_run, faulty_end, faulty_run, memory_run}
+use Rattle.sp_play.proofs.Laws.{none_play, more_line, until_line, more_end, until_end, until_nothing, more_until}
 use Rattle.sp_play.proofs.play.run.Goals as goal
 
-pub returns-in-Failed-clause-runs : goal.returns-in-Failed-clause-runs
-returns-in-Failed-clause-runs g c =
-    let h = c.loop-room.invariant.heard in
-    (record { bytes = h.0; read = Consumes-kept _ _ _ _ h.1 c.in-Failed.ensures.bytes; goes = h.3 }, omega (arith, h.2))
+pub loop-player-init : goal.loop-player-init
+loop-player-init g c = record {
+  heard = ([], taken_none _ _ c.requires.unread c.requires.room, none_play _ _ _);
+  ready = c.requires.ready;
+  reads = omega arith;
+  writes = omega arith;
+}
 
-pub returns-in-Ok-clause-runs : goal.returns-in-Ok-clause-runs
-returns-in-Ok-clause-runs g c =
-    let h = c.loop-room.invariant.heard in
+pub loop-player-preserved : goal.loop-player-preserved
+loop-player-preserved g c =
+    let h = c.loop-player.invariant.heard in
+    let line = line_of c.next.new.self.ended c.next.new.self.line in
     record {
-      bytes = h.0;
-      read = Consumes-kept _ _ _ _ h.1 c.in-End.ensures.bytes.0;
-      end = c.in-End.ensures.bytes.1 (omega (arith, length-take c.min-want.result c.loop-room.buf, c.min-want.ensures));
-      short = omega (arith, h.2);
-      goes = goes_end h.0 c.loop-room.desk.line _ _ _ _ _ _ _ _ _ h.4 h.3 c.in-Ok.ensures.goes;
+      heard = (
+        h.0 ++ line ∷ [],
+        c.in-Line.ensures.comes _ h.0 h.1,
+        more_line _ _ _ line _ _ _ _ _ _ _ _ _ c.line.ensures h.2 c.in_default.ensures.plays,
+      );
+      ready = c.in_default.ensures.ready;
+      reads = omega (arith, c.loop-player.invariant.reads, c.next.ensures.later);
+      writes = omega (arith, c.loop-player.invariant.writes, c.hear_line.ensures.later);
     }
 
 pub returns-in-Err-clause-runs : goal.returns-in-Err-clause-runs
 returns-in-Err-clause-runs g c =
-    let h = c.loop-room.invariant.heard in
-    stopped _ _ _ _ _ _ _ _ _ _ c.end_of.ensures
-    (record {
-      bytes = h.0;
-      read = Consumes-kept _ _ _ _ h.1 c.in-End.ensures.bytes.0;
-      stops = stops_end _ h.0 c.loop-room.desk.line _ _ _ _ _ _ _ _ h.4 h.3 c.in-Err.ensures.stops;
-    })
+    let h = c.loop-player.invariant.heard in
+    let line = line_of c.next.new.self.ended c.next.new.self.line in
+    let stops = until_line _ _ _ line _ _ _ _ _ _ _ _ c.line.ensures h.2 c.in-Err.ensures.stops in
+    faulty_run _ _ _ (h.0 ++ line ∷ []) _ _ _ c.end_of.ensures _ _ (c.in-Line.ensures.comes _ h.0 h.1) (λ others. more_until _ _ others _ _ _ _ _ stops)
 
-pub returns-in-Err-hear-clause-runs : goal.returns-in-Err-hear-clause-runs
-returns-in-Err-hear-clause-runs g c =
-    let h = c.loop-room.invariant.heard in
-    let piece = take c.in-Bytes.count c.read.new.buf in
-    stopped _ _ _ _ _ _ _ _ _ _ c.end_of-in-Err-hear.ensures
-    (record {
-      bytes = h.0 ++ piece;
-      read = Consumes-more _ _ _ _ _ h.1 c.in-Bytes.ensures.bytes.2;
-      stops = stops_piece _ h.0 c.loop-room.desk.line piece _ _ _ _ _ _ _ _ h.4 h.3 c.in-Err-hear.ensures.stops;
-    })
+pub returns-in-Ok-clause-runs : goal.returns-in-Ok-clause-runs
+returns-in-Ok-clause-runs g c =
+    let h = c.loop-player.invariant.heard in
+    let line = line_of c.next.new.self.ended c.next.new.self.line in
+    ended_run _ _ _ (h.0 ++ line ∷ []) (c.in-Last.ensures.comes _ h.0 h.1)
+    (more_line _ _ _ line _ _ _ _ _ _ _ _ _ c.line-in-Last.ensures h.2 c.in-Ok.ensures.plays)
 
-pub returns-clause-runs : goal.returns-clause-runs
-returns-clause-runs g c =
-    let h = c.loop-room.invariant.heard in
-    (record { bytes = h.0; read = h.1; goes = h.3 }, omega (arith, h.2))
+pub returns-in-Err-hear_last-clause-runs : goal.returns-in-Err-hear_last-clause-runs
+returns-in-Err-hear_last-clause-runs g c =
+    let h = c.loop-player.invariant.heard in
+    let line = line_of c.next.new.self.ended c.next.new.self.line in
+    faulty_end _ _ _ (h.0 ++ line ∷ []) _ _ _ c.end_of-in-Err-hear_last.ensures (c.in-Last.ensures.comes _ h.0 h.1)
+    (until_line _ _ _ line _ _ _ _ _ _ _ _ c.line-in-Last.ensures h.2 c.in-Err-hear_last.ensures.stops)
 
-pub loop-room-preserved : goal.loop-room-preserved
-loop-room-preserved g c =
-    let h = c.loop-room.invariant.heard in
-    let piece = take c.in-Bytes.count c.read.new.buf in
-    let size = length-take-le c.in-Bytes.count c.read.new.buf c.in-Bytes.ensures.bytes.0 in
-    record {
-      heard = (
-        h.0 ++ piece,
-        Consumes-more _ _ _ _ _ h.1 c.in-Bytes.ensures.bytes.2,
-        omega (arith, h.2, length-append h.0 piece, size, c.in-Bytes.ensures.bytes.0, length-take c.min-want.result c.loop-room.buf, c.min-want.ensures),
-        goes_piece h.0 c.loop-room.desk.line piece _ _ _ _ _ _ _ _ _ h.4 h.3 c.in_default.ensures.goes,
-        c.in_default.ensures.line ∙ ap (λ r. (cut_after r piece).rest) h.4 ∙ sym (cut_pieces_rest [] h.0 piece),
-      );
-      counted = c.in_default.ensures.counted;
-      reads = omega (arith, c.loop-room.invariant.reads, c.in-Bytes.ensures.cause);
-      writes = omega (arith, c.loop-room.invariant.writes, c.hear.ensures.later);
-    }
+pub returns-in-Ok-hear_end-clause-runs : goal.returns-in-Ok-hear_end-clause-runs
+returns-in-Ok-hear_end-clause-runs g c =
+    let h = c.loop-player.invariant.heard in
+    ended_run _ _ _ h.0 (c.in-End.ensures.comes _ h.0 h.1) (more_end _ _ _ _ _ _ _ _ _ _ h.2 c.in-Ok-hear_end.ensures.plays)
+
+pub returns-in-Err-hear_end-clause-runs : goal.returns-in-Err-hear_end-clause-runs
+returns-in-Err-hear_end-clause-runs g c =
+    let h = c.loop-player.invariant.heard in
+    faulty_end _ _ _ h.0 _ _ _ c.end_of-in-Err-hear_end.ensures (c.in-End.ensures.comes _ h.0 h.1)
+    (until_end _ _ _ _ _ _ _ _ _ _ h.2 c.in-Err-hear_end.ensures.stops)
+
+pub returns-in-Failed-clause-runs : goal.returns-in-Failed-clause-runs
+returns-in-Failed-clause-runs g c =
+    let h = c.loop-player.invariant.heard in
+    failed_run _ _ _ h.0 (c.in-Failed.ensures.comes _ h.0 h.1) h.2
+
+pub returns-in-Long-clause-runs : goal.returns-in-Long-clause-runs
+returns-in-Long-clause-runs g c =
+    let h = c.loop-player.invariant.heard in
+    long_run _ _ _ h.0 (c.in-Long.ensures.comes _ h.0 h.1) h.2
+
+pub returns-in-Memory-clause-runs : goal.returns-in-Memory-clause-runs
+returns-in-Memory-clause-runs g c =
+    let h = c.loop-player.invariant.heard in
+    memory_run _ _ _ h.0 (c.in-Memory.ensures.comes _ h.0 h.1) (λ others. until_nothing _ others _ _ _ _ _ _ h.2)
