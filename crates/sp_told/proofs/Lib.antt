@@ -1,0 +1,10 @@
+pub mod Pending
+pub mod Changes
+pub mod Steps
+pub mod Late
+pub mod Starting
+pub mod Quiet
+pub mod Commits
+pub mod Owing
+pub mod Started
+pub mod Agreeing
