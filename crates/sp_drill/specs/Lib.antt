@@ -1,0 +1,4 @@
+pub mod Leading
+pub mod Drilling
+pub mod Hearing
+pub mod Telling
