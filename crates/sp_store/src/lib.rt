@@ -1,0 +1,6 @@
+//! A kernel over the two files of one journal.
+#![tactic(auto)]
+
+mod store;
+
+pub use store::{Store, open_store};
