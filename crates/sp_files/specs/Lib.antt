@@ -1,0 +1,4 @@
+pub mod Compacting
+pub mod Ending
+pub mod Fetching
+pub mod Reporting
