@@ -1,0 +1,14 @@
+use Rattle.std.proofs.Common.{◌≡◌, ◌≤◌, []}
+use Rattle.sp_text.specs.declared.form.Form.TheVariants.{Play}
+use Rattle.sp_desk.specs.Course.{Course}
+use Rattle.sp_desk.specs.Playing.{Turn}
+use Rattle.sp_desk.specs.Hearing.{place, Passes}
+use Rattle.sp_desk.proofs.desk.Desk.go_on.Given as goal
+
+abbrev pub invariant-loop : goal.invariant-loop
+invariant-loop g l = record {
+  passes : Passes Turn.GoingOn Turn.GoingOn [] (place l.initial.self.scribe.items l.initial.self.stalled.items l.initial.kernel.kernel (g.K.Sink.taken l.initial.sink)) (place l.self.scribe.items l.self.stalled.items l.kernel.kernel (g.K.Sink.taken l.sink));
+  form : l.self.scribe.form ≡ Play;
+  course : Course g.D.Disk.tells g.D.Disk.takes_memory g.D.Disk.faults g.D.Disk.moment g.D.Disk.images l.initial.kernel l.kernel;
+  later : g.K.Sink.write_faults l.initial.sink ≤ g.K.Sink.write_faults l.sink;
+}

@@ -1,0 +1,10 @@
+pub mod Points
+pub mod Working
+pub mod Committing
+pub mod Cleaning
+pub mod Waiting
+pub mod Course
+pub mod Playing
+pub mod Hearing
+pub mod Script
+pub mod Telling
