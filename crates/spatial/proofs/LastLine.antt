@@ -1,5 +1,5 @@
 -- The texts of the items and then the last line.
-use Rattle.std.proofs.Common.{◌≡◌, ℕ, ◌+◌, ◌-◌, ◌^◌, ◌≤◌, ◌⊎◌, inl, inr, List, [], ◌++◌, Option, refl, sym, ap, ◌∙◌, subst, append_assoc, arith, min}
+use Rattle.std.proofs.Common.{◌≡◌, ℕ, ◌≤◌, inl, inr, List, [], ◌++◌, Option, refl, sym, ap, ◌∙◌, subst, append_assoc, arith}
 use Rattle.std.specs.Io.KnownBytes.{Appends}
 use Rattle.sp_io.specs.Faults.{Rose}
 use Rattle.sp_io.specs.Streams.{AppendsFront}
@@ -8,8 +8,8 @@ use Rattle.sp_text.specs.declared.form.Form.TheVariants.{Play}
 use Rattle.sp_text.specs.Texts.{render}
 use Rattle.sp_text.specs.declared.types.Item.{Item}
 use Rattle.sp_text.specs.declared.types.End.{End}
-use Rattle.sp_text.specs.declared.types.End.TheVariants.{Input, Usage, ReadFault, WriteFault, Memory, Long}
-use Rattle.sp_play.specs.Script.{WritesTo}
+use Rattle.sp_text.specs.declared.types.End.TheVariants.{Input, Usage, ReadFault, WriteFault, DiskFault, Foreign, Damaged, Memory, Long}
+use Rattle.sp_lines.specs.Reading.{WritesTo}
 use Rattle.spatial.specs.Offline.{last_line, Writes, WritesOrFails}
 
 Appends-front : (a b c : Option (List ℕ)) (x y : List ℕ) → Appends a b x → AppendsFront b c y → AppendsFront a c (x ++ y)
@@ -31,3 +31,6 @@ module _ (a b c : Option (List ℕ)) (k m n : ℕ) (items : List Item) where
   writes_last ReadFault p q e h = then_last a b c k m n _ _ p q h
   writes_last Memory p q e h = then_last a b c k m n _ _ p q h
   writes_last Long p q e h = then_last a b c k m n _ _ p q h
+  writes_last DiskFault p q e h = then_last a b c k m n _ _ p q h
+  writes_last Foreign p q e h = then_last a b c k m n _ _ p q h
+  writes_last (Damaged offset) p q e h = then_last a b c k m n _ _ p q h

@@ -1,5 +1,5 @@
--- The command line, the exit statuses and the last line of the program.
-use Rattle.std.specs.Prelude.{◌≡◌, ◌⊎◌, ℕ, List, [], ◌∷◌, ◌++◌, codes, Option}
+-- The exit statuses and the last line of a run without a journal.
+use Rattle.std.specs.Prelude.{◌⊎◌, ℕ, List, [], ◌++◌, codes, decimal, Option}
 use Rattle.std.specs.Io.KnownBytes.{Appends}
 use Rattle.sp_io.specs.Faults.{Rose}
 use Rattle.sp_io.specs.Streams.{AppendsFront}
@@ -7,11 +7,7 @@ use Rattle.sp_text.specs.declared.form.Form.TheVariants.{Play}
 use Rattle.sp_text.specs.Texts.{render}
 use Rattle.sp_text.specs.declared.types.Item.{Item}
 use Rattle.sp_text.specs.declared.types.End.{End}
-use Rattle.sp_text.specs.declared.types.End.TheVariants.{Input, Usage, ReadFault, WriteFault, Memory, Long}
-
--- the one command line of the grammar
-abbrev pub play_words : List (List ℕ)
-play_words = codes "play" ∷ []
+use Rattle.sp_text.specs.declared.types.End.TheVariants.{Input, Usage, ReadFault, WriteFault, DiskFault, Foreign, Damaged, Memory, Long}
 
 -- the exit status of an end
 abbrev pub status_of : End → ℕ
@@ -19,6 +15,9 @@ status_of Input = 0
 status_of Usage = 1
 status_of ReadFault = 2
 status_of WriteFault = 3
+status_of DiskFault = 4
+status_of Foreign = 5
+status_of (Damaged offset) = 5
 status_of Memory = 6
 status_of Long = 8
 
@@ -28,6 +27,9 @@ last_line Input = []
 last_line Usage = codes "! usage\n"
 last_line ReadFault = codes "! read\n"
 last_line WriteFault = []
+last_line DiskFault = codes "! disk\n"
+last_line Foreign = codes "! foreign\n"
+last_line (Damaged offset) = codes "! damaged " ++ decimal offset ++ codes "\n"
 last_line Memory = codes "! memory\n"
 last_line Long = codes "! long\n"
 

@@ -1,9 +1,14 @@
 //! The program `spatial`: rectangles with records, under serializable transactions.
 #![tactic(auto)]
 
+mod done;
+mod ending;
+mod making;
 mod offline;
+mod playing;
 
 use offline::offline;
+use sp_disk::FileShelf;
 use sp_io::{StdSink, StdSource, Words};
 use std::env;
 use std::process::ExitCode;
@@ -24,7 +29,8 @@ fn main(rt: HostRuntime) -> ExitCode {
     }
     let mut source = StdSource::new(rt.stdin());
     let mut sink = StdSink::new(rt.stdout());
-    let done = offline(rt.alloc(), &words, &mut source, &mut sink);
+    let mut shelf = FileShelf::new(rt, rt.alloc());
+    let done = offline(rt.alloc(), &words, &mut source, &mut sink, &mut shelf);
     ExitCode::from(done.status)
 }
 
