@@ -10,6 +10,8 @@ mod effects;
 #[cfg(test)]
 mod granules;
 #[cfg(test)]
+mod kernel_events;
+#[cfg(test)]
 mod needs;
 #[cfg(test)]
 mod plain_needs;
