@@ -21,7 +21,7 @@ use std::alloc::{AllocError, Global};
 /// their limit, and then the operation ends without effect. Where there is no memory nothing has changed.
 ///
 /// Costs what `effect` costs, and for an entry its insertion and, for each new node, a look at the rectangles
-/// that the transaction searched; besides a pass over the lock table.
+/// that the transaction searched; besides the release of its short locks.
 pub fn apply(alloc: Global, state: &mut State, session: SessionId) -> Result<Answer, AllocError>
     requires sound { Sound (kernel_of state.old) }
     requires fits { Fits state.old }

@@ -31,7 +31,7 @@ fn next_place(commits: &[Commit]) -> u64
 /// The commit of an idle session's transaction without changes: it takes the next place at once, and is answered
 /// `Committed` with it. What it made and ended itself is dead then, its locks go, and its session has no
 /// transaction. Takes no memory. Costs the entries that bear its marks, the sessions that have a transaction, and
-/// a pass over the lock table.
+/// the release of its locks.
 pub fn commit_unchanged(state: &mut State, session: SessionId) -> Answer
     requires sound { Sound (kernel_of state.old) }
     requires fits { Fits state.old }

@@ -19,7 +19,7 @@ use sp_state::{State, dismiss, place_of};
 /// Undoes the active transaction of the session at this place: its marks go, with what they kill at the end of
 /// the dead list, its locks go, and the session has no transaction. Nothing else changes, and it takes no memory.
 /// What it rests on, `MayEnd`, speaks of no locks: it may be called after some of them went. Costs the entries
-/// that bear its marks, the sessions that have a transaction, and a pass over the lock table.
+/// that bear its marks, the sessions that have a transaction, and the release of its locks.
 pub fn roll_back(state: &mut State, at: usize)
     requires bound { at < length state.old.seats.items }
     requires active { (x : AnySession) → slice_get state.old.seats.items at ≡ Some x → is_active x ≡ true }

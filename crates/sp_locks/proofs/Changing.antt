@@ -26,12 +26,12 @@ same-lasting Short Short h = refl
 same-lasting Commit Short h = absurd (true≢false (sym h))
 same-lasting Short Commit h = absurd (true≢false (sym h))
 
-record IsLock (s : ℕ) (d : Duration) (x : Row) : Type 0 where
-  held : x.waiting ≡ false
-  own : x.session ≡ s
-  lasts : x.duration ≡ d
+pub record IsLock (s : ℕ) (d : Duration) (x : Row) : Type 0 where
+  pub held : x.waiting ≡ false
+  pub own : x.session ≡ s
+  pub lasts : x.duration ≡ d
 
-of_lock : (s : ℕ) (d : Duration) (x : Row) → is_lock_of s d x ≡ true → IsLock s d x
+pub of_lock : (s : ℕ) (d : Duration) (x : Row) → is_lock_of s d x ≡ true → IsLock s d x
 of_lock s d x h = record { held = one x.waiting (nat_eq x.session s) (same_duration x.duration d) h; own = numbers-same x.session s (two x.waiting (nat_eq x.session s) (same_duration x.duration d) h); lasts = same-lasting x.duration d (three x.waiting (nat_eq x.session s) (same_duration x.duration d) h) }
   where
     one : (a b c : Bool) → ((not a && b) && c) ≡ true → a ≡ false
@@ -44,7 +44,7 @@ of_lock s d x h = record { held = one x.waiting (nat_eq x.session s) (same_durat
     three a b c h = grind arith
 
 -- a row that a lock joins is of those there, or the lock
-from-lock : (lock : Row) (xs : List Row) (x : Row) → In x (with_lock lock xs) → ((y : Row) × In y xs × (y.session ≡ x.session) × (y.duration ≡ x.duration)) ⊎ ((lock.session ≡ x.session) × (lock.duration ≡ x.duration))
+pub from-lock : (lock : Row) (xs : List Row) (x : Row) → In x (with_lock lock xs) → ((y : Row) × In y xs × (y.session ≡ x.session) × (y.duration ≡ x.duration)) ⊎ ((lock.session ≡ x.session) × (lock.duration ≡ x.duration))
 from-lock lock [] x (inl e) = inr (ap (λ (z : Row). z.session) e, ap (λ (z : Row). z.duration) e)
 from-lock lock [] x (inr i) = absurd i
 from-lock lock (y ∷ ys) x i = go (is_lock_of lock.session lock.duration y) i (from-lock lock ys x)
@@ -61,7 +61,7 @@ from-lock lock (y ∷ ys) x i = go (is_lock_of lock.session lock.duration y) i (
         wider (inl (z, k, e, f)) = inl (z, inr k, e, f)
         wider (inr h) = inr h
 
-from-retried : (before rest : List Row) (x : Row) → In x (retried before rest) → (y : Row) × In y (before ++ rest) × (y.session ≡ x.session) × (y.duration ≡ x.duration)
+pub from-retried : (before rest : List Row) (x : Row) → In x (retried before rest) → (y : Row) × In y (before ++ rest) × (y.session ≡ x.session) × (y.duration ≡ x.duration)
 from-retried before [] x i = (x, subst (In x) (sym (append-nil before)) i, refl, refl)
 from-retried before (r ∷ rest) x i = go (not r.waiting || is_blocked before rest r.session r.mode) (is_short r) i (λ b. from-retried b rest x)
   where

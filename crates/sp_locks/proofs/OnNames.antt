@@ -4,9 +4,8 @@ use Rattle.std.proofs.lemmas.List.Elements.{filter-append}
 use Rattle.sp_locks.specs.declared.row.Name.{Name}
 use Rattle.sp_locks.specs.declared.row.Scope.{Scope}
 use Rattle.sp_locks.specs.declared.row.Row.{Row}
-use Rattle.sp_locks.specs.declared.needs.Need.{Need}
 use Rattle.sp_locks.specs.Rows.{same_name, with_row, released_in}
-use Rattle.sp_locks.specs.Table.{is_on, rows_on, names_of, replaced, with_row_on, given, released, AreOn}
+use Rattle.sp_locks.specs.Table.{is_on, rows_on, names_of, replaced, with_row_on, released, AreOn}
 use Rattle.sp_locks.proofs.Names.{same_is, same-refl, same-sym, apart, on-all, on-none, others}
 use Rattle.sp_locks.proofs.Groups.{on-with_row}
 use Rattle.sp_locks.proofs.Releasing.{on-released}
@@ -115,7 +114,3 @@ module _ (F : Name → List Row) (on : (n : Name) → AreOn n (F n)) where
 pub released-on : (scope : Scope) (s : ℕ) (m : Name) (rows : List Row) → rows_on m (released scope s rows) ≡ released_in scope s (rows_on m rows)
 released-on scope s m rows =
     made-on (λ n. released_in scope s (rows_on n rows)) (λ n. on-released scope s n (rows_on n rows) (rows-on n rows)) m rows (λ (e : rows_on m rows ≡ []). ap (released_in scope s) e)
-
--- gifts come to names without rows
-pub given-on : (s : ℕ) (m : Name) (rows : List Row) (needs : List Need) → rows_on m (rows ++ given s needs) ≡ rows_on m rows ++ rows_on m (given s needs)
-given-on s m rows needs = filter-append (is_on m) rows (given s needs)

@@ -1,20 +1,28 @@
-// The rows of a table by name: where they stand, and how they come and go.
-ghost use Rattle.std.specs.Prelude.{◌≡◌, [], ◌∷◌, ◌++◌, OnOk, OnErr, IfOk, slice_get, if◌then◌else◌, List, is_ok};
-ghost use Rattle.sp_locks.specs.Rows.{released_in};
-ghost use Rattle.sp_locks.specs.Table.{rows_on, with_row_on, released, has_rows, given, AreFreeInTurn};
+// The rows of a table by name, and the names by session.
+ghost use Rattle.std.specs.Prelude.{◌≡◌, [], ◌∷◌, ◌++◌, OnOk, OnErr, IfOk, slice_get, if◌then◌else◌, List, is_ok, None, true, false};
+ghost use Rattle.std.specs.List.{list_any};
+ghost use Rattle.sp_locks.specs.Rows.{waiting_in, is_short, is_row_of};
+ghost use Rattle.sp_locks.specs.Table.{rows_on, with_row_on, replaced, released, given, AreFreeInTurn};
+ghost use Rattle.sp_locks.specs.Lists.{is_listed, KeepsLists};
+ghost use Rattle.sp_locks.specs.Soundness.{IsSound};
+ghost use Rattle.sp_locks.specs.declared.row.Scope.TheVariants.{ShortLocks, AllRows};
 
 use crate::needs::Need;
 use crate::row::{Duration, Name, Row, Scope, SessionId};
-use crate::rows;
+use crate::slots::Slots;
+use crate::{lists, rows};
 use indexmap::IndexMap;
 use std::alloc::{AllocError, Global};
 use std::marker::Model;
 
 /// Rows by name, in the order in which the names came, and on each name in order of arrival. Each
-/// name has rows: one whose last row goes is forgotten.
+/// name has rows: one whose last row goes is forgotten. For each session it is known on which names
+/// it may have rows for commit, and on which short ones.
 #[derive(Drop)]
 pub(crate) struct RowsByName {
-    names: IndexMap<Name, Vec<Row>>,
+    rows: Slots,
+    commits: IndexMap<SessionId, Vec<Name>>,
+    shorts: IndexMap<SessionId, Vec<Name>>,
 }
 
 impl Model for RowsByName {
@@ -23,11 +31,35 @@ impl Model for RowsByName {
 
     ghost Value = { List Row };
 
-    ghost use Rattle.sp_locks.specs.Table.{rows_in, AreNamed};
+    ghost use Rattle.sp_locks.specs.Lists.{AreListed};
 
-    ghost view = { λ a. rows_in (λ v. v.items) a.names.entries };
+    ghost view = { λ a. a.rows };
 
-    ghost invariant = { λ a. AreNamed (λ v. v.items) a.names.entries };
+    ghost invariant = { λ a. AreListed (λ v. v.items) a.commits.entries a.shorts.entries a.rows };
+}
+
+// Lists the name of a row for its session and its duration, unless the session has such a row among
+// those on the name.
+fn list_row(
+    commits: &mut IndexMap<SessionId, Vec<Name>>,
+    shorts: &mut IndexMap<SessionId, Vec<Name>>,
+    alloc: Global,
+    held: &[Row],
+    row: Row,
+) -> Result<(), AllocError>
+    ensures commits { KeepsLists (λ v. v.items) commits.old.entries commits.new.entries }
+    ensures shorts { KeepsLists (λ v. v.items) shorts.old.entries shorts.new.entries }
+    ensures listed { OnOk result (list_any (is_row_of row.session row.duration) held.now ≡ false
+        → is_listed (λ v. v.items) (if is_short row then shorts.new.entries else commits.new.entries) row.session row.name ≡ true) }
+{
+    if rows::has_row(held, row.session, row.duration) {
+        return Ok(());
+    }
+    if row.is_short() {
+        lists::list(shorts, alloc, row.session, row.name)
+    } else {
+        lists::list(commits, alloc, row.session, row.name)
+    }
 }
 
 impl RowsByName {
@@ -36,7 +68,9 @@ impl RowsByName {
         ensures { result ≡ [] }
     {
         RowsByName {
-            names: IndexMap::new(alloc),
+            rows: Slots::new(alloc),
+            commits: IndexMap::new(alloc),
+            shorts: IndexMap::new(alloc),
         }
     }
 
@@ -44,10 +78,7 @@ impl RowsByName {
     pub(crate) fn on(&self, name: Name) -> &[Row]
         ensures { result.now ≡ rows_on name self.now }
     {
-        match self.names.get(&name) {
-            Some(rows) => rows.as_slice(),
-            None => &[],
-        }
+        self.rows.on(name)
     }
 
     /// Adds a row to those on its name: one that waits comes last, and a lock raises the one that
@@ -55,23 +86,16 @@ impl RowsByName {
     pub(crate) fn add(&mut self, alloc: Global, row: Row) -> Result<(), AllocError>
         ensures { self.new ≡ (if is_ok result then with_row_on row self.old else self.old) }
     {
-        match self.names.get_index_of(&row.name) {
-            Some(at) => rows::add(&mut self.names[at], row),
-            None => {
-                let mut rows = Vec::new(alloc);
-                rows::add(&mut rows, row)?;
-                self.names.insert(row.name, rows)?;
-                Ok(())
-            }
-        }
+        let held = self.rows.on(row.name);
+        list_row(&mut self.commits, &mut self.shorts, alloc, held, row)?;
+        self.rows.add(alloc, row)
     }
 
     // Takes back the last row, the only one on its name.
-    fn drop_last(&mut self)
-        ensures { (front : List _) (last : _) → self.old ≡ front ++ last ∷ []
-            → rows_on last.name front ≡ [] → self.new ≡ front }
+    fn drop_last(&mut self, name: Name)
+        ensures { self.new ≡ replaced name [] self.old }
     {
-        self.names.pop();
+        self.rows.clear(name);
     }
 
     // Takes back that many of the locks that were given.
@@ -79,8 +103,8 @@ impl RowsByName {
         ensures { (rows : List _) → AreFreeInTurn session rows needs.now
             → self.old ≡ rows ++ given session needs.now → self.new ≡ rows }
     {
-        'back: for _i in (0..needs.len()).rev() {
-            self.drop_last();
+        'back: for i in (0..needs.len()).rev() {
+            self.drop_last(needs[i].name);
         }
     }
 
@@ -113,19 +137,31 @@ impl RowsByName {
         Ok(())
     }
 
-    /// Takes the rows of that scope away, and tries on each name those that wait. Takes no memory.
-    pub(crate) fn release(&mut self, scope: Scope, session: SessionId)
-        ensures { self.new ≡ released scope session self.old }
+    /// Drops the short locks of the session, and tries on each of their names those that wait. A
+    /// session that waits keeps its list of names. Takes no memory.
+    pub(crate) fn release_short(&mut self, session: SessionId, waits: bool)
+        requires sound { IsSound self.old }
+        requires awake { waits ≡ false → waiting_in session self.old ≡ None }
+        ensures { self.new ≡ released ShortLocks session self.old }
     {
-        self.names.retain(
-            |_name: &Name, rows: &mut Vec<Row>| -> bool
-                ensures { (result ≡ has_rows rows.new.items)
-                    × (rows.new.items ≡ released_in scope session rows.old.items) }
-            {
-                rows::release(rows, scope, session);
-                !rows.is_empty()
-            },
-        );
+        let names = lists::names(&self.shorts, session);
+        self.rows.release(Scope::ShortLocks, session, names, &[]);
+        if !waits {
+            lists::forget(&mut self.shorts, session);
+        }
+    }
+
+    /// Drops all rows of the session, and tries on each of their names those that wait. Takes no
+    /// memory.
+    pub(crate) fn release_all(&mut self, session: SessionId)
+        requires { IsSound self.old }
+        ensures { self.new ≡ released AllRows session self.old }
+    {
+        let commits = lists::names(&self.commits, session);
+        let shorts = lists::names(&self.shorts, session);
+        self.rows.release(Scope::AllRows, session, commits, shorts);
+        lists::forget(&mut self.commits, session);
+        lists::forget(&mut self.shorts, session);
     }
 
     /// The same rows in the same order.
@@ -133,7 +169,9 @@ impl RowsByName {
         ensures { IfOk result (λ copy. copy ≡ self.now) }
     {
         Ok(RowsByName {
-            names: self.names.clone()?,
+            rows: self.rows.copy()?,
+            commits: self.commits.clone()?,
+            shorts: self.shorts.clone()?,
         })
     }
 
@@ -141,14 +179,6 @@ impl RowsByName {
     pub(crate) fn row(&self, i: usize) -> Option<Row>
         ensures { result ≡ slice_get self.now i }
     {
-        let mut left = i;
-        for k in 0..self.names.len() {
-            let rows = &self.names[k];
-            if left < rows.len() {
-                return Some(rows[left]);
-            }
-            left -= rows.len();
-        }
-        None
+        self.rows.row(i)
     }
 }
