@@ -4,6 +4,7 @@ mod Corner
 pub mod Crashes
 mod Framing
 mod Heads
+pub mod Kinding
 pub mod Making
 pub mod Opened
 pub mod Ordering

@@ -1,6 +1,6 @@
 -- What a stop leaves while a file is made anew.
 use Rattle.std.proofs.Common.{◌≡◌, ◌⊎◌, inl, inr, ◌+◌, ◌-◌, ◌<◌, ◌≤◌, ℕ, zero, suc, List, [], ◌∷◌, ◌++◌, length, take, refl, sym, ◌∙◌, ap, subst, arith, length-take}
-use Rattle.std.proofs.lemmas.List.{take_all, append-nil}
+use Rattle.std.proofs.lemmas.List.{append-nil}
 use Rattle.std.proofs.lemmas.Int.{clamps}
 use Rattle.sp_disk.specs.Files.{put, Torn, Shortened}
 use Rattle.sp_disk.specs.Faults.{Rose}
@@ -37,35 +37,39 @@ front_of (x ∷ front) gate tail (suc n) lt =
     let same : n - (length front + 1) ≡ suc n - (suc (length front) + 1) = omega arith in
     ap (λ (l : List ℕ). x ∷ l) (front_of front gate tail n (omega (arith, lt)) ∙ ap (λ (k : ℕ). front ++ gate ∷ take k tail) same)
 
--- a file that needs making holds nothing, and neither does a front of it
-pub front_holds : (file : List ℕ) (n : ℕ) → NeedsMaking file → HoldsNothing (take n file)
-front_holds file n (short is) = empty (omega (arith, length-take n file, is))
-front_holds file n (unfinished generation gate tail low high shut is) = elim (which n) [
-  | inl few ↦ empty (omega (arith, length-take n file, few))
+-- a front of a file that needs making needs it too
+pub front_needs : (file : List ℕ) (n : ℕ) → NeedsMaking file → NeedsMaking (take n file)
+front_needs file n (short is) = short (omega (arith, length-take n file, is))
+front_needs file n (unfinished generation gate tail low high shut is) = elim (which n) [
+  | inl few ↦ short (omega (arith, length-take n file, few))
   | inr many ↦
       let front = header_bytes 2 generation in
-      let base : Base = record { version = 2; generation = generation; front = []; found = nothing } in
-      let whole : IsBase base = record { header = inr (refl, omega (arith, low), high); leads = start } in
-      let cut : take n file ≡ front ++ gate ∷ take (n - (length front + 1)) tail = ap (λ (l : List ℕ). take n l) is ∙ front_of front gate tail n (omega (arith, many, length-header 2 generation)) in
-      closed_gate base gate (take (n - (length front + 1)) tail) (take n file) whole shut (cut ∙ ap (λ (l : List ℕ). l ++ gate ∷ take (n - (length front + 1)) tail) (sym (append-nil front)))
+      unfinished generation gate (take (n - (length front + 1)) tail) low high shut
+      (ap (λ (l : List ℕ). take n l) is ∙ front_of front gate tail n (omega (arith, many, length-header 2 generation)))
 ]
   where
     which : (k : ℕ) → (k ≤ 17) ⊎ (17 < k)
     which k = grind arith
 
+-- a file that needs making holds nothing
 pub file_holds : (file : List ℕ) → NeedsMaking file → HoldsNothing file
-file_holds file needs = subst HoldsNothing (take_all (length file) file (omega arith)) (front_holds file (length file) needs)
+file_holds file (short is) = empty is
+file_holds file (unfinished generation gate tail low high shut is) =
+    let front = header_bytes 2 generation in
+    let base : Base = record { version = 2; generation = generation; front = []; found = nothing } in
+    let whole : IsBase base = record { header = inr (refl, omega (arith, low), high); leads = start } in
+    closed_gate base gate tail file whole shut (is ∙ ap (λ (l : List ℕ). l ++ gate ∷ tail) (sym (append-nil front)))
 
 -- a cut of it
-pub cut_holds : (was file : List ℕ) → NeedsMaking was → Shortened 0 was file → HoldsNothing file
-cut_holds was file needs cut = subst HoldsNothing (sym cut.front) (front_holds was (length file) needs)
+pub cut_needs : (was file : List ℕ) → NeedsMaking was → Shortened 0 was file → NeedsMaking file
+cut_needs was file needs cut = subst NeedsMaking (sym cut.front) (front_needs was (length file) needs)
 
 -- the writing of a new file over an empty one
-pub torn_new : (file : List ℕ) (n : ℕ) → n ≤ 17 → Torn 0 n [] file → HoldsNothing file
-torn_new file n few torn = empty (omega (arith, torn.no_longer, few))
+pub torn_new : (file : List ℕ) (n : ℕ) → n ≤ 17 → Torn 0 n [] file → NeedsMaking file
+torn_new file n few torn = short (omega (arith, torn.no_longer, few))
 
-pub empty_holds : (file : List ℕ) → file ≡ [] → HoldsNothing file
-empty_holds file is = empty (omega (arith, ap length is))
+pub empty_needs : (file : List ℕ) → file ≡ [] → NeedsMaking file
+empty_needs file is = short (omega (arith, ap length is))
 
 -- the bytes of a new file, written over nothing
 pub new_bytes : (reads : List ℕ) → reads ≡ [] → put reads 0 (83 ∷ 80 ∷ 74 ∷ 76 ∷ 0 ∷ 0 ∷ 0 ∷ 2 ∷ 0 ∷ 0 ∷ 0 ∷ 0 ∷ 0 ∷ 0 ∷ 0 ∷ 1 ∷ 0 ∷ []) ≡ new_file

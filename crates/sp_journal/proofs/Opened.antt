@@ -8,13 +8,15 @@ use Rattle.sp_journal.specs.declared.types.Recovered.{Recovered}
 use Rattle.sp_journal.specs.declared.work.Phase.TheVariants.{Ready}
 use Rattle.sp_journal.specs.declared.work.Work.{Work}
 use Rattle.sp_journal.specs.Format.{header_bytes, framed}
-use Rattle.sp_journal.specs.Kinds.{IsKind, empty, unfinished as kind_unfinished}
+use Rattle.sp_journal.specs.Kinds.{IsKind, empty, unfinished as kind_unfinished, KeepsKind}
+use Rattle.sp_journal.specs.Looking.{OnlyReads}
 use Rattle.sp_journal.specs.Opening.{RecoversAs, Opens, synced, IsReady, IsAttached}
 use Rattle.sp_journal.specs.Recovery.{Base, start, nothing, Recovers, Holds, NeedsMaking, short, unfinished, HoldsNothing, new_file}
 use Rattle.sp_journal.specs.Scanning.{Held, Rests}
 use Rattle.sp_journal.specs.Standing.{Ledger, Stands, IsNext, IsInFlight, Lies}
 use Rattle.sp_journal.proofs.Crashes.{closed_gate, length-head}
-use Rattle.sp_journal.proofs.Making.{file_holds}
+use Rattle.sp_journal.proofs.Kinding.{keeps_same, keeps_made}
+use Rattle.sp_journal.proofs.Making.{file_holds, chained}
 use Rattle.sp_journal.proofs.Outcomes.{one_outcome}
 
 -- the file is to be made anew
@@ -127,3 +129,25 @@ pub opens_synced : (before first now : ℕ) (was reads : List ℕ) (old mid new 
 opens_synced before first now was reads old mid new same passes only =
     synced first passes.later passes.step (λ k file low high left. subst (λ w. RecoversAs w file) same (only.each k file low high left))
     (λ k file low. let one = passes.past k file low in let two = only.past k file (omega (arith, low, passes.later)) in (λ x. one.0 (two.0 x), λ x. two.1 (one.1 x)))
+
+-- the same, of any property
+pub opens_after : (before first now : ℕ) (old mid new : ℕ → List ℕ → Type 0) (P : List ℕ → Type 0) → Passes before first old mid → LeavesOnly first now mid new P → Opens before now old new P
+opens_after before first now old mid new P passes only =
+    synced first passes.later passes.step only.each
+    (λ k file low. let one = passes.past k file low in let two = only.past k file (omega (arith, low, passes.later)) in (λ x. one.0 (two.0 x), λ x. two.1 (one.1 x)))
+
+-- a file that is only read keeps its kind
+pub looked_keeps : (before now : ℕ) (reads reads' : List ℕ) (old new : ℕ → List ℕ → Type 0) → OnlyReads before now reads reads' old new → ((file : List ℕ) → old before file → file ≡ reads) → LeavesOnly before now old new (KeepsKind reads)
+looked_keeps before now reads reads' old new looks only = leaves_weaker before now old new (old before) (KeepsKind reads) (λ file left. keeps_same reads file (only file left)) looks.stop
+
+-- and one that is read and then prepared
+pub prepared_keeps : (before mid now : ℕ) (reads reads' : List ℕ) (old between new : ℕ → List ℕ → Type 0) → OnlyReads before mid reads reads' old between → ((file : List ℕ) → old before file → file ≡ reads)
+    → LeavesOnly mid now between new (KeepsKind reads') → LeavesOnly before now old new (KeepsKind reads)
+prepared_keeps before mid now reads reads' old between new looks only run =
+    chained before mid now old between new (KeepsKind reads) (looked_keeps before mid reads reads' old between looks only) (subst (λ (w : List ℕ). LeavesOnly mid now between new (KeepsKind w)) looks.bytes run)
+
+-- a journal over a file of which a stop leaves what a read gives
+pub attached_keeps : (was reads : List ℕ) (leaves : List ℕ → Type 0) (work : Work) (found : Recovered) → IsAttached was reads leaves work found → work.phase ≡ Ready → (file : List ℕ) → leaves file → KeepsKind was file
+attached_keeps was reads leaves work found is phase file left =
+    let at : Lies Ready is.ledger reads leaves = subst (λ p. Lies p is.ledger reads leaves) phase is.stands.file in
+    subst (λ (f : List ℕ). KeepsKind was f) (sym (at.4 file left)) (keeps_made was reads is.kept)

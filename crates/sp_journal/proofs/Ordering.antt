@@ -1,11 +1,9 @@
 -- What a file holds is by ascending id.
-use Rattle.std.proofs.Common.{◌≡◌, ℕ, List, [], map, Some}
+use Rattle.std.proofs.Common.{ℕ, List, [], map}
 use Rattle.sp_rect.specs.Store.{IsOrdered}
-use Rattle.sp_rect.specs.declared.record.Record.{Record}
 use Rattle.sp_plain.specs.declared.change.Change.TheVariants.{Put}
 use Rattle.sp_plain.proofs.Leading.{ordered_taken}
 use Rattle.sp_journal.specs.declared.types.Recovered.{Recovered}
-use Rattle.sp_journal.specs.Format.{IsCheckpoint}
 use Rattle.sp_journal.specs.Recovery.{all_changes, Enters, batch, checkpoint, Leads, start, more, Outcome, Foreign, Damaged, Holds, Recovers, empty, foreign, closed, damaged}
 use Rattle.sp_journal.proofs.Payloads.{checkpoint_puts}
 

@@ -1,11 +1,11 @@
 -- Changes make no more records than they may.
-use Rattle.std.proofs.Common.{◌≡◌, ℕ, ◌+◌, ◌<◌, ◌≤◌, Bool, true, false, not, ◌&&◌, cond, List, [], ◌∷◌, filter, length, Option, Some, None, refl, sym, ap, ◌∙◌, subst, arith}
+use Rattle.std.proofs.Common.{◌≡◌, ℕ, ◌+◌, ◌<◌, ◌≤◌, Bool, true, false, not, ◌&&◌, cond, List, [], ◌∷◌, length, Some, None, refl, sym, subst, arith}
 use Rattle.std.specs.Prelude.{nat_le, nat_lt, Result, Ok, Err, IfOk, OnErr}
 use Rattle.std.proofs.lemmas.Bool.Decides.{nat_tests}
 use Rattle.std.proofs.lemmas.List.{length-map}
 use Rattle.std.proofs.lemmas.List.Sums.{length-filter, count_by-le-length}
 use Rattle.sp_rect.specs.declared.record.Record.{Record}
-use Rattle.sp_rect.specs.Store.{Id, without, written, with_record, touches, with_value}
+use Rattle.sp_rect.specs.Store.{Id, with_record, touches, with_value}
 use Rattle.sp_plain.specs.declared.change.Change.{Change}
 use Rattle.sp_plain.specs.declared.change.Change.TheVariants.{Put, Drop, Set}
 use Rattle.sp_plain.specs.Taking.{most_records, is_there, can_change, left_by, taken}

@@ -3,6 +3,7 @@ ghost use Rattle.std.specs.Prelude.{◌≡◌, ◌⊎◌, ◌+◌, ◌^◌, ◌<
 ghost use Rattle.sp_disk.specs.Faults.{Rose};
 ghost use Rattle.sp_disk.specs.Moments.{LeavesOnly};
 ghost use Rattle.sp_plain.specs.Taking.{taken};
+ghost use Rattle.sp_journal.specs.Kinds.{KeepsOneOf};
 ghost use Rattle.sp_journal.specs.Recovery.{all_changes};
 ghost use Rattle.sp_journal.specs.Standing.{Ledger, Stands, Keeps, Answered, MayLeave, turned, queued_behind, queued_after, flying_after};
 ghost use Rattle.sp_rect.specs.declared.record.Record.{Record};
@@ -25,6 +26,7 @@ fn write_body<D: Disk>(disk: &mut D, work: &mut Work) -> Call
     requires phase { work.old.phase ≡ Phase.Ready }
     requires some { 1 ≤ work.old.commits }
     ensures crash { (ledger : Ledger) → IsTrue (D.tells disk.old) → Stands (D.reads disk.old) (D.images disk.old (D.moment disk.old)) work.old ledger → LeavesOnly (D.moment disk.old) (D.moment disk.new) (D.images disk.old) (D.images disk.new) (MayLeave Phase.Ready ledger) }
+    ensures kinds { (ledger : Ledger) → IsTrue (D.tells disk.old) → Stands (D.reads disk.old) (D.images disk.old (D.moment disk.old)) work.old ledger → LeavesOnly (D.moment disk.old) (D.moment disk.new) (D.images disk.old) (D.images disk.new) (KeepsOneOf (D.images disk.old (D.moment disk.old))) }
     ensures stands { (ledger : Ledger) → IsTrue (D.tells disk.old) → Stands (D.reads disk.old) (D.images disk.old (D.moment disk.old)) work.old ledger → Stands (D.reads disk.new) (D.images disk.new (D.moment disk.new)) work.new (turned Phase.Ready result ledger) }
     ensures answer { Answered Phase.Ready result work.old work.new }
     ensures changes { work.new.changes ≡ queued_after Phase.Ready result work.old.changes }
@@ -55,6 +57,7 @@ fn write_body<D: Disk>(disk: &mut D, work: &mut Work) -> Call
 fn settle_body<D: Disk>(disk: &mut D, work: &mut Work) -> Call
     requires { work.old.phase ≡ Phase.Written }
     ensures crash { (ledger : Ledger) → IsTrue (D.tells disk.old) → Stands (D.reads disk.old) (D.images disk.old (D.moment disk.old)) work.old ledger → LeavesOnly (D.moment disk.old) (D.moment disk.new) (D.images disk.old) (D.images disk.new) (MayLeave Phase.Written ledger) }
+    ensures kinds { (ledger : Ledger) → IsTrue (D.tells disk.old) → Stands (D.reads disk.old) (D.images disk.old (D.moment disk.old)) work.old ledger → LeavesOnly (D.moment disk.old) (D.moment disk.new) (D.images disk.old) (D.images disk.new) (KeepsOneOf (D.images disk.old (D.moment disk.old))) }
     ensures stands { (ledger : Ledger) → IsTrue (D.tells disk.old) → Stands (D.reads disk.old) (D.images disk.old (D.moment disk.old)) work.old ledger → Stands (D.reads disk.new) (D.images disk.new (D.moment disk.new)) work.new (turned Phase.Written result ledger) }
     ensures answer { Answered Phase.Written result work.old work.new }
     ensures changes { work.new.changes ≡ queued_after Phase.Written result work.old.changes }
@@ -85,6 +88,7 @@ fn settle_body<D: Disk>(disk: &mut D, work: &mut Work) -> Call
 fn open_gate<D: Disk>(disk: &mut D, work: &mut Work) -> Call
     requires { work.old.phase ≡ Phase.Settled }
     ensures crash { (ledger : Ledger) → IsTrue (D.tells disk.old) → Stands (D.reads disk.old) (D.images disk.old (D.moment disk.old)) work.old ledger → LeavesOnly (D.moment disk.old) (D.moment disk.new) (D.images disk.old) (D.images disk.new) (MayLeave Phase.Settled ledger) }
+    ensures kinds { (ledger : Ledger) → IsTrue (D.tells disk.old) → Stands (D.reads disk.old) (D.images disk.old (D.moment disk.old)) work.old ledger → LeavesOnly (D.moment disk.old) (D.moment disk.new) (D.images disk.old) (D.images disk.new) (KeepsOneOf (D.images disk.old (D.moment disk.old))) }
     ensures stands { (ledger : Ledger) → IsTrue (D.tells disk.old) → Stands (D.reads disk.old) (D.images disk.old (D.moment disk.old)) work.old ledger → Stands (D.reads disk.new) (D.images disk.new (D.moment disk.new)) work.new (turned Phase.Settled result ledger) }
     ensures answer { Answered Phase.Settled result work.old work.new }
     ensures changes { work.new.changes ≡ queued_after Phase.Settled result work.old.changes }
@@ -115,6 +119,7 @@ fn open_gate<D: Disk>(disk: &mut D, work: &mut Work) -> Call
 fn settle_gate<D: Disk>(disk: &mut D, work: &mut Work) -> Call
     requires { work.old.phase ≡ Phase.Opened }
     ensures crash { (ledger : Ledger) → IsTrue (D.tells disk.old) → Stands (D.reads disk.old) (D.images disk.old (D.moment disk.old)) work.old ledger → LeavesOnly (D.moment disk.old) (D.moment disk.new) (D.images disk.old) (D.images disk.new) (MayLeave Phase.Opened ledger) }
+    ensures kinds { (ledger : Ledger) → IsTrue (D.tells disk.old) → Stands (D.reads disk.old) (D.images disk.old (D.moment disk.old)) work.old ledger → LeavesOnly (D.moment disk.old) (D.moment disk.new) (D.images disk.old) (D.images disk.new) (KeepsOneOf (D.images disk.old (D.moment disk.old))) }
     ensures stands { (ledger : Ledger) → IsTrue (D.tells disk.old) → Stands (D.reads disk.old) (D.images disk.old (D.moment disk.old)) work.old ledger → Stands (D.reads disk.new) (D.images disk.new (D.moment disk.new)) work.new (turned Phase.Opened result ledger) }
     ensures answer { Answered Phase.Opened result work.old work.new }
     ensures changes { work.new.changes ≡ queued_after Phase.Opened result work.old.changes }
@@ -145,6 +150,7 @@ fn settle_gate<D: Disk>(disk: &mut D, work: &mut Work) -> Call
 // The next call of the disk, if there is one to make.
 fn step<D: Disk>(disk: &mut D, work: &mut Work) -> Call
     ensures crash { (ledger : Ledger) → IsTrue (D.tells disk.old) → Stands (D.reads disk.old) (D.images disk.old (D.moment disk.old)) work.old ledger → LeavesOnly (D.moment disk.old) (D.moment disk.new) (D.images disk.old) (D.images disk.new) (MayLeave work.old.phase ledger) }
+    ensures kinds { (ledger : Ledger) → IsTrue (D.tells disk.old) → Stands (D.reads disk.old) (D.images disk.old (D.moment disk.old)) work.old ledger → LeavesOnly (D.moment disk.old) (D.moment disk.new) (D.images disk.old) (D.images disk.new) (KeepsOneOf (D.images disk.old (D.moment disk.old))) }
     ensures stands { (ledger : Ledger) → IsTrue (D.tells disk.old) → Stands (D.reads disk.old) (D.images disk.old (D.moment disk.old)) work.old ledger → Stands (D.reads disk.new) (D.images disk.new (D.moment disk.new)) work.new (turned work.old.phase result ledger) }
     ensures answer { Answered work.old.phase result work.old work.new }
     ensures changes { work.new.changes ≡ queued_after work.old.phase result work.old.changes }
@@ -196,6 +202,7 @@ impl<D: Disk> Journal<D> {
     /// call any more.
     pub fn next_call(&mut self) -> Call
         ensures crash { (ledger : Ledger) → IsTrue (D.tells self.old.disk) → Stands (D.reads self.old.disk) (D.images self.old.disk (D.moment self.old.disk)) self.old.work ledger → LeavesOnly (D.moment self.old.disk) (D.moment self.new.disk) (D.images self.old.disk) (D.images self.new.disk) (MayLeave self.old.work.phase ledger) }
+        ensures kinds { (ledger : Ledger) → IsTrue (D.tells self.old.disk) → Stands (D.reads self.old.disk) (D.images self.old.disk (D.moment self.old.disk)) self.old.work ledger → LeavesOnly (D.moment self.old.disk) (D.moment self.new.disk) (D.images self.old.disk) (D.images self.new.disk) (KeepsOneOf (D.images self.old.disk (D.moment self.old.disk))) }
         ensures stands { (ledger : Ledger) → IsTrue (D.tells self.old.disk) → Stands (D.reads self.old.disk) (D.images self.old.disk (D.moment self.old.disk)) self.old.work ledger → Stands (D.reads self.new.disk) (D.images self.new.disk (D.moment self.new.disk)) self.new.work (turned self.old.work.phase result ledger) }
         ensures answer { Answered self.old.work.phase result self.old.work self.new.work }
         ensures changes { self.new.work.changes ≡ queued_after self.old.work.phase result self.old.work.changes }

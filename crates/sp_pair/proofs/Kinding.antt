@@ -1,52 +1,16 @@
--- A file is of one kind, and what a cut leaves of it is of the same or empty.
+-- What a cut leaves of a file is of its kind or empty.
 use Rattle.std.proofs.Common.{◌≡◌, ◌⊎◌, inl, inr, ◌+◌, ◌-◌, ◌^◌, ◌<◌, ◌≤◌, ℕ, zero, suc, List, [], ◌∷◌, ◌++◌, length, take, refl, sym, ◌∙◌, ap, arith, length-take}
 use Rattle.sp_disk.specs.Files.{Shortened}
 use Rattle.sp_journal.specs.declared.kind.Kind.{Kind}
 use Rattle.sp_journal.specs.declared.kind.Kind.TheVariants.{Empty, Foreign, Unfinished, Settled}
 use Rattle.sp_journal.specs.Format.{header_bytes}
 use Rattle.sp_journal.specs.Kinds.{IsKind, empty, foreign, unfinished, settled}
-use Rattle.sp_journal.specs.Recovery.{IsHeader, NeedsMaking, short, unfinished as needs_unfinished}
+use Rattle.sp_journal.specs.Recovery.{NeedsMaking, short, unfinished as needs_unfinished}
 use Rattle.sp_journal.proofs.Crashes.{length-header}
-use Rattle.sp_journal.proofs.Prefixes.{header_same}
 use Rattle.sp_pair.specs.Pairs.{IsUnsettled}
 
 le_or_lt : (a b : ℕ) → (a ≤ b) ⊎ (b < a)
 le_or_lt a b = grind arith
-
--- a header of version 2
-later_header : (generation : ℕ) → 2 ≤ generation → generation < 2 ^ 63 → IsHeader 2 generation
-later_header generation low high = inr (refl, omega arith, high)
-
--- two headers and gates of one file
-same_settled : (v g w h a b : ℕ) (s t file : List ℕ) → IsHeader v g → IsHeader w h → file ≡ header_bytes v g ++ a ∷ s → file ≡ header_bytes w h ++ b ∷ t → (v ≡ w) × (g ≡ h) × (a ≡ b)
-same_settled v g w h a b s t file is also one two =
-    let same = header_same v g w h (a ∷ s) (b ∷ t) is also (sym one ∙ two) in
-    let rest : a ∷ s ≡ b ∷ t = same.rest in
-    (same.version, same.generation, (cc))
-
-pub one_kind : (file : List ℕ) (a b : Kind) → IsKind file a → IsKind file b → a ≡ b
-one_kind file a b (empty few) (empty less) = refl
-one_kind file a b (empty few) (foreign long none) = absurd (omega arith)
-one_kind file a b (empty few) (unfinished g gate tail long low high shut stands) = absurd (omega arith)
-one_kind file a b (empty few) (settled v g gate tail long is open_gate stands) = absurd (omega arith)
-one_kind file a b (foreign long none) (empty few) = absurd (omega arith)
-one_kind file a b (foreign long none) (foreign longer never) = refl
-one_kind file a b (foreign long none) (unfinished g gate tail longer low high shut stands) = absurd (none 2 g (gate ∷ tail) (later_header g low high) stands)
-one_kind file a b (foreign long none) (settled v g gate tail longer is open_gate stands) = absurd (none v g (gate ∷ tail) is stands)
-one_kind file a b (unfinished g gate tail long low high shut stands) (empty few) = absurd (omega arith)
-one_kind file a b (unfinished g gate tail long low high shut stands) (foreign longer none) = absurd (none 2 g (gate ∷ tail) (later_header g low high) stands)
-one_kind file a b (unfinished g gate tail long low high shut stands) (unfinished h gate' tail' longer low' high' shut' stands') = refl
-one_kind file a b (unfinished g gate tail long low high shut stands) (settled w h gate' tail' longer is open_gate stands') =
-    let same = same_settled 2 g w h gate gate' tail tail' file (later_header g low high) is stands stands' in
-    absurd (shut (same.2 ∙ open_gate (omega (arith, low, same.1))))
-one_kind file a b (settled v g gate tail long is open_gate stands) (empty few) = absurd (omega arith)
-one_kind file a b (settled v g gate tail long is open_gate stands) (foreign longer none) = absurd (none v g (gate ∷ tail) is stands)
-one_kind file a b (settled v g gate tail long is open_gate stands) (unfinished h gate' tail' longer low high shut stands') =
-    let same = same_settled v g 2 h gate gate' tail tail' file is (later_header h low high) stands stands' in
-    absurd (shut (sym same.2 ∙ open_gate (omega (arith, low, same.1))))
-one_kind file a b (settled v g gate tail long is open_gate stands) (settled w h gate' tail' longer also open_gate' stands') =
-    let same = same_settled v g w h gate gate' tail tail' file is also stands stands' in
-    ap (λ (n : ℕ). Settled n g) same.0 ∙ ap (λ (n : ℕ). Settled w n) same.1
 
 front_of : (front : List ℕ) (gate : ℕ) (tail : List ℕ) (n : ℕ) → length front < n → take n (front ++ gate ∷ tail) ≡ front ++ gate ∷ take (n - (length front + 1)) tail
 front_of [] gate tail zero lt = absurd (omega (arith, lt))

@@ -1,4 +1,4 @@
-mod Choices
+pub mod Choices
 mod Kinding
 mod Refusals
 pub mod Renewing

@@ -93,6 +93,8 @@ keeps_here : (b : Bool) (c reads o : List ℕ) (before now before' now' : ℕ) (
     → LeavesOnly before' now' old' new' (HoldAsBefore b c o c) → Keeps b c o before now before' now' old new old' new'
 keeps_here b c reads o before now before' now' old new old' new' looks only leaves = record {
   each = λ k j file file' low high low' high' left left'. subst (λ (f : List ℕ). HoldAsBefore b c o f file') (sym (only file (looks.stop.each k file low high left))) (leaves.each j file' low' high' left');
+  later = looks.stop.later;
+  other_later = leaves.later;
   past = looks.stop.past;
   other_past = leaves.past;
 }

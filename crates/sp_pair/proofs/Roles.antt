@@ -5,11 +5,12 @@ use Rattle.sp_journal.specs.declared.kind.Kind.TheVariants.{Foreign as IsForeign
 use Rattle.sp_journal.specs.declared.types.Recovered.{Recovered}
 use Rattle.sp_journal.specs.Kinds.{IsKind}
 use Rattle.sp_journal.specs.Recovery.{Outcome, Foreign, Damaged, Holds, Recovers}
+use Rattle.sp_journal.proofs.Kinding.{one_kind}
 use Rattle.sp_journal.proofs.Outcomes.{one_outcome}
 use Rattle.sp_pair.specs.Compacting.{first_of, second_of, RecoversRoles, HoldAsBefore}
 use Rattle.sp_pair.specs.Pairs.{IsUnsettled, IsNoNewer, IsOlder, IsChosen, first, second, neither, RecoversPair, foreign, current}
 use Rattle.sp_pair.proofs.Choices.{older, no_newer}
-use Rattle.sp_pair.proofs.Kinding.{one_kind, IsQuiet, generation_fits}
+use Rattle.sp_pair.proofs.Kinding.{IsQuiet, generation_fits}
 
 -- one of the two is chosen
 pub one_chosen : (main alt : List ℕ) (a b : Bool) (v g w h : ℕ) → IsChosen main alt a v g → IsChosen main alt b w h → a ≡ b
@@ -78,7 +79,7 @@ the_other true c o = refl
 the_other false c o = refl
 
 module _ (b : Bool) (v g : ℕ) (c o : List ℕ) (chosen : IsChosen (first_of b c o) (second_of b c o) b v g) where
-  from_roles : (outcome : Outcome) → (outcome ≡ Foreign → ⊥) → RecoversRoles b c o outcome → Recovers c outcome
+  pub from_roles : (outcome : Outcome) → (outcome ≡ Foreign → ⊥) → RecoversRoles b c o outcome → Recovers c outcome
   from_roles outcome home is = subst (λ (f : List ℕ). Recovers f outcome) (the_current b c o) (from_pair (first_of b c o) (second_of b c o) b v g outcome home chosen is)
 
   pub to_roles : (outcome : Outcome) → Recovers c outcome → RecoversRoles b c o outcome

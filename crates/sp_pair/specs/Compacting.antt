@@ -65,6 +65,8 @@ pub record HoldAsBefore (is_alt : Bool) (current other current' other' : List �
 -- they held at the first of these moments. What was before is kept.
 pub record Keeps (is_alt : Bool) (current other : List ℕ) (before now before' now' : ℕ) (old new old' new' : ℕ → List ℕ → Type 0) : Type 0 where
   pub each : (k j : ℕ) (file file' : List ℕ) → before ≤ k → k ≤ now → before' ≤ j → j ≤ now' → new k file → new' j file' → HoldAsBefore is_alt current other file file'
+  pub later : before ≤ now
+  pub other_later : before' ≤ now'
   pub past : (k : ℕ) (file : List ℕ) → k ≤ before → new k file ↔ old k file
   pub other_past : (k : ℕ) (file : List ℕ) → k ≤ before' → new' k file ↔ old' k file
 

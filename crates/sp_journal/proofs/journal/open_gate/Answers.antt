@@ -1,7 +1,8 @@
 use Rattle.std.proofs.Common.{inl}
 use Rattle.sp_journal.specs.Standing.{IsBeforeOrAfter}
 use Rattle.sp_journal.proofs.Passing.{one_call}
-use Rattle.sp_journal.proofs.Turning.{settled_leaves, gate_leaves, gate_opened, broken}
+use Rattle.sp_journal.proofs.Turning.{gate_keeps, settled_leaves, gate_leaves, gate_opened, broken}
+use Rattle.sp_journal.proofs.Kinding.{call_keeps}
 use Rattle.sp_journal.proofs.journal.open_gate.Goals as goal
 
 pub returns-in-Ok-clause-crash : goal.returns-in-Ok-clause-crash
@@ -27,3 +28,18 @@ pub returns-in-Err-Fault-clause-stands : goal.returns-in-Err-Fault-clause-stands
 returns-in-Err-Fault-clause-stands g c = λ ledger told stands.
     broken (g.D.Disk.reads c.args.disk.now) (g.D.Disk.images c.args.disk.now (g.D.Disk.moment c.args.disk.now)) c.args.work.now ledger stands c.advance-in-Err-Fault.new.self (g.D.Disk.reads c.write_at.new.self) (g.D.Disk.images c.write_at.new.self (g.D.Disk.moment c.write_at.new.self)) c.advance-in-Err-Fault.ensures.same c.advance-in-Err-Fault.ensures.phase
     (gate_leaves (g.D.Disk.reads c.args.disk.now) (g.D.Disk.images c.args.disk.now (g.D.Disk.moment c.args.disk.now)) c.args.work.now ledger stands c.requires (g.D.Disk.images c.write_at.new.self (g.D.Disk.moment c.write_at.new.self)) (c.write_at.ensures.at_most told))
+
+pub returns-in-Ok-clause-kinds : goal.returns-in-Ok-clause-kinds
+returns-in-Ok-clause-kinds g c = λ ledger told stands.
+    call_keeps (g.D.Disk.moment c.args.disk.now) (g.D.Disk.moment c.write_at.new.self) (g.D.Disk.images c.args.disk.now) (g.D.Disk.images c.write_at.new.self) c.write_at.ensures.time
+    (λ file left. let t = c.write_at.ensures.at_most told file left in record { was = t.0; left = t.1; keeps = gate_keeps (g.D.Disk.reads c.args.disk.now) (g.D.Disk.images c.args.disk.now (g.D.Disk.moment c.args.disk.now)) c.args.work.now ledger stands c.requires t.0 file t.1 t.2 })
+
+pub returns-in-Err-Fault-clause-kinds : goal.returns-in-Err-Fault-clause-kinds
+returns-in-Err-Fault-clause-kinds g c = λ ledger told stands.
+    call_keeps (g.D.Disk.moment c.args.disk.now) (g.D.Disk.moment c.write_at.new.self) (g.D.Disk.images c.args.disk.now) (g.D.Disk.images c.write_at.new.self) c.write_at.ensures.time
+    (λ file left. let t = c.write_at.ensures.at_most told file left in record { was = t.0; left = t.1; keeps = gate_keeps (g.D.Disk.reads c.args.disk.now) (g.D.Disk.images c.args.disk.now (g.D.Disk.moment c.args.disk.now)) c.args.work.now ledger stands c.requires t.0 file t.1 t.2 })
+
+pub returns-in-Err-Memory-clause-kinds : goal.returns-in-Err-Memory-clause-kinds
+returns-in-Err-Memory-clause-kinds g c = λ ledger told stands.
+    call_keeps (g.D.Disk.moment c.args.disk.now) (g.D.Disk.moment c.write_at.new.self) (g.D.Disk.images c.args.disk.now) (g.D.Disk.images c.write_at.new.self) c.write_at.ensures.time
+    (λ file left. let t = c.write_at.ensures.at_most told file left in record { was = t.0; left = t.1; keeps = gate_keeps (g.D.Disk.reads c.args.disk.now) (g.D.Disk.images c.args.disk.now (g.D.Disk.moment c.args.disk.now)) c.args.work.now ledger stands c.requires t.0 file t.1 t.2 })

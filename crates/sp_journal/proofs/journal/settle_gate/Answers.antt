@@ -2,6 +2,7 @@ use Rattle.std.proofs.Common.{ap}
 use Rattle.sp_journal.specs.Standing.{IsBeforeOrAfter}
 use Rattle.sp_journal.proofs.Passing.{one_call}
 use Rattle.sp_journal.proofs.Turning.{opened_leaves, landed, broken}
+use Rattle.sp_journal.proofs.Kinding.{sync_keeps}
 use Rattle.sp_journal.proofs.journal.settle_gate.Goals as goal
 
 pub returns-in-Ok-clause-crash : goal.returns-in-Ok-clause-crash
@@ -27,3 +28,12 @@ pub returns-in-Err-Fault-clause-stands : goal.returns-in-Err-Fault-clause-stands
 returns-in-Err-Fault-clause-stands g c = λ ledger told stands.
     broken (g.D.Disk.reads c.args.disk.now) (g.D.Disk.images c.args.disk.now (g.D.Disk.moment c.args.disk.now)) c.args.work.now ledger stands c.advance.new.self (g.D.Disk.reads c.sync.new.self) (g.D.Disk.images c.sync.new.self (g.D.Disk.moment c.sync.new.self)) c.advance.ensures.same c.advance.ensures.phase
     (λ file left. (opened_leaves (g.D.Disk.reads c.args.disk.now) (g.D.Disk.images c.args.disk.now (g.D.Disk.moment c.args.disk.now)) c.args.work.now ledger stands c.requires file (c.sync.ensures.at_most told file left)))
+
+pub returns-in-Ok-clause-kinds : goal.returns-in-Ok-clause-kinds
+returns-in-Ok-clause-kinds g c = λ ledger told stands. sync_keeps (g.D.Disk.moment c.args.disk.now) (g.D.Disk.moment c.sync.new.self) (g.D.Disk.images c.args.disk.now) (g.D.Disk.images c.sync.new.self) c.sync.ensures.time (c.sync.ensures.at_most told)
+
+pub returns-in-Err-Fault-clause-kinds : goal.returns-in-Err-Fault-clause-kinds
+returns-in-Err-Fault-clause-kinds g c = λ ledger told stands. sync_keeps (g.D.Disk.moment c.args.disk.now) (g.D.Disk.moment c.sync.new.self) (g.D.Disk.images c.args.disk.now) (g.D.Disk.images c.sync.new.self) c.sync.ensures.time (c.sync.ensures.at_most told)
+
+pub returns-in-Err-Memory-clause-kinds : goal.returns-in-Err-Memory-clause-kinds
+returns-in-Err-Memory-clause-kinds g c = λ ledger told stands. sync_keeps (g.D.Disk.moment c.args.disk.now) (g.D.Disk.moment c.sync.new.self) (g.D.Disk.images c.args.disk.now) (g.D.Disk.images c.sync.new.self) c.sync.ensures.time (c.sync.ensures.at_most told)

@@ -3,6 +3,7 @@ use Rattle.sp_disk.specs.Moments.{LeavesOnly}
 use Rattle.sp_journal.specs.Standing.{MayLeave, IsBefore}
 use Rattle.sp_journal.proofs.Passing.{no_call}
 use Rattle.sp_journal.proofs.Turning.{ready_leaves}
+use Rattle.sp_journal.proofs.Kinding.{still_keeps}
 use Rattle.sp_journal.proofs.journal.step.Goals as goal
 
 pub returns-in-Ready-clause-crash : goal.returns-in-Ready-clause-crash
@@ -29,3 +30,9 @@ pub returns-in-Opened-clause-crash : goal.returns-in-Opened-clause-crash
 returns-in-Opened-clause-crash g c = λ ledger told stands.
     subst (λ p. LeavesOnly (g.D.Disk.moment c.args.disk.now) (g.D.Disk.moment c.settle_gate.new.disk) (g.D.Disk.images c.args.disk.now) (g.D.Disk.images c.settle_gate.new.disk) (MayLeave p ledger)) (sym c.in-Opened.is)
     (c.settle_gate.ensures.crash ledger told stands)
+
+pub returns-in-Ready-clause-kinds : goal.returns-in-Ready-clause-kinds
+returns-in-Ready-clause-kinds g c = λ ledger told stands. still_keeps (g.D.Disk.moment c.args.disk.now) (g.D.Disk.images c.args.disk.now)
+
+pub returns-in-Broken-clause-kinds : goal.returns-in-Broken-clause-kinds
+returns-in-Broken-clause-kinds g c = λ ledger told stands. still_keeps (g.D.Disk.moment c.args.disk.now) (g.D.Disk.images c.args.disk.now)
