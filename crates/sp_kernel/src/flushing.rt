@@ -3,6 +3,7 @@ ghost use Rattle.std.specs.Prelude.{◌≡◌, ◌≤◌, ◌<◌, ◌+◌, ℕ,
 ghost use Rattle.sp_list.specs.Emptiness.{is_empty};
 ghost use Rattle.sp_disk.specs.Faults.{Rose};
 ghost use Rattle.sp_disk.specs.Moments.{LeavesOnly};
+ghost use Rattle.sp_journal.specs.Kinds.{KeepsOneOf};
 ghost use Rattle.sp_model.specs.Refusals.{turned_away};
 ghost use Rattle.sp_model.specs.Moves.{taken_off};
 ghost use Rattle.sp_model.specs.Soundness.{Sound};
@@ -72,6 +73,7 @@ pub(crate) fn flush<D: Disk>(alloc: Global, state: &mut State, journal: &mut Jou
     ensures counted { Counted (kernel_of state.new) journal.new.work }
     ensures agrees { IsTrue (D.tells journal.old.disk) → Agrees (kernel_of state.old) journal.old.work (D.reads journal.old.disk) (D.images journal.old.disk (D.moment journal.old.disk)) → Agrees (kernel_of state.new) journal.new.work (D.reads journal.new.disk) (D.images journal.new.disk (D.moment journal.new.disk)) }
     ensures crash { IsTrue (D.tells journal.old.disk) → Agrees (kernel_of state.old) journal.old.work (D.reads journal.old.disk) (D.images journal.old.disk (D.moment journal.old.disk)) → LeavesOnly (D.moment journal.old.disk) (D.moment journal.new.disk) (D.images journal.old.disk) (D.images journal.new.disk) (IsLeftInCall journal.old.work.phase (kernel_of state.old)) }
+    ensures kinds { IsTrue (D.tells journal.old.disk) → Agrees (kernel_of state.old) journal.old.work (D.reads journal.old.disk) (D.images journal.old.disk (D.moment journal.old.disk)) → LeavesOnly (D.moment journal.old.disk) (D.moment journal.new.disk) (D.images journal.old.disk) (D.images journal.new.disk) (KeepsOneOf (D.images journal.old.disk (D.moment journal.old.disk))) }
     ensures once { D.moment journal.new.disk ≤ D.moment journal.old.disk + 1 }
     ensures later { D.faults journal.old.disk ≤ D.faults journal.new.disk }
     ensures fault { result ≡ Answer.DiskFault → Rose (D.faults journal.old.disk) (D.faults journal.new.disk) }

@@ -2,6 +2,7 @@
 ghost use Rattle.std.specs.Prelude.{◌≡◌, ◌≢◌, ◌≤◌, ◌+◌, Bool, None, IsTrue};
 ghost use Rattle.sp_disk.specs.Faults.{Rose};
 ghost use Rattle.sp_disk.specs.Moments.{LeavesOnly};
+ghost use Rattle.sp_journal.specs.Kinds.{KeepsOneOf};
 ghost use Rattle.sp_model.specs.Refusals.{turned_away};
 ghost use Rattle.sp_model.specs.Soundness.{Sound};
 ghost use Rattle.sp_state.specs.Held.{kernel_of, Fits};
@@ -87,6 +88,7 @@ pub(crate) fn proceed<D: Disk>(
     ensures counted { Counted (kernel_of state.new) journal.new.work }
     ensures agrees { IsTrue (D.tells journal.old.disk) → Agrees (kernel_of state.old) journal.old.work (D.reads journal.old.disk) (D.images journal.old.disk (D.moment journal.old.disk)) → Agrees (kernel_of state.new) journal.new.work (D.reads journal.new.disk) (D.images journal.new.disk (D.moment journal.new.disk)) }
     ensures crash { IsTrue (D.tells journal.old.disk) → Agrees (kernel_of state.old) journal.old.work (D.reads journal.old.disk) (D.images journal.old.disk (D.moment journal.old.disk)) → LeavesOnly (D.moment journal.old.disk) (D.moment journal.new.disk) (D.images journal.old.disk) (D.images journal.new.disk) (IsLeftInCall journal.old.work.phase (kernel_of state.old)) }
+    ensures kinds { IsTrue (D.tells journal.old.disk) → Agrees (kernel_of state.old) journal.old.work (D.reads journal.old.disk) (D.images journal.old.disk (D.moment journal.old.disk)) → LeavesOnly (D.moment journal.old.disk) (D.moment journal.new.disk) (D.images journal.old.disk) (D.images journal.new.disk) (KeepsOneOf (D.images journal.old.disk (D.moment journal.old.disk))) }
     ensures still { event ≢ Event.Flush → journal.new.disk ≡ journal.old.disk }
     ensures once { D.moment journal.new.disk ≤ D.moment journal.old.disk + 1 }
     ensures memory { result ≡ Answer.Memory → MayWant (D.takes_memory journal.old.disk) (kernel_of state.old) event }

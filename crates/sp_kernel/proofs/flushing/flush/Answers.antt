@@ -43,3 +43,6 @@ returns-clause-crash g c = λ tells held.
     leaves_weaker _ _ _ _ (MayLeave c.args.journal.now.work.phase held.ledger) (IsLeftInCall c.args.journal.now.work.phase k)
     (λ file may. left_in_call k held.ledger (bare k c.requires.sound) held.matches c.args.journal.now.work.phase file may)
     (c.next_call-call.ensures.crash held.ledger tells held.stands)
+
+pub returns-clause-kinds : goal.returns-clause-kinds
+returns-clause-kinds g c = λ tells held. c.next_call-call.ensures.kinds held.ledger tells held.stands

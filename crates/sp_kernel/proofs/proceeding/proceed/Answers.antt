@@ -1,5 +1,6 @@
 use Rattle.std.proofs.Common.{refl, arith}
 use Rattle.sp_state.specs.Held.{kernel_of}
+use Rattle.sp_journal.proofs.Kinding.{still_keeps}
 use Rattle.sp_kernel.proofs.Stillness.{still_leaves}
 use Rattle.sp_kernel.proofs.proceeding.proceed.Goals as goal
 
@@ -14,6 +15,7 @@ returns-in_default g c = record {
   counted = c.proceed_apart.ensures.counted;
   agrees = c.proceed_apart.ensures.agrees;
   crash = λ tells held. rw c.proceed_apart.ensures.disk (still_leaves (kernel_of c.args.state.now) c.args.journal.now.work _ _ _ c.requires.sound held);
+  kinds = λ tells held. rw c.proceed_apart.ensures.disk (still_keeps _ _);
   still = λ other. c.proceed_apart.ensures.disk;
   once = rw c.proceed_apart.ensures.disk (omega arith);
   memory = λ e. c.proceed_apart.ensures.memory e _;
@@ -22,3 +24,6 @@ returns-in_default g c = record {
   tells = rw c.proceed_apart.ensures.disk refl;
   takes = rw c.proceed_apart.ensures.disk refl;
 }
+
+pub returns-in-Commit-clause-kinds : goal.returns-in-Commit-clause-kinds
+returns-in-Commit-clause-kinds g c = λ tells held. rw c.proceed_commit.ensures.disk (still_keeps _ _)

@@ -14,3 +14,6 @@ invariant_of-result g c =
 
 pub returns-in-Err-open_state-clause-crash : goal.returns-in-Err-open_state-clause-crash
 returns-in-Err-open_state-clause-crash g c = λ t. rw c.detach.ensures (c.in-Ok.ensures.crash t)
+
+pub returns-in-Err-open_state-clause-kinds : goal.returns-in-Err-open_state-clause-kinds
+returns-in-Err-open_state-clause-kinds g c = λ t. rw c.detach.ensures (c.in-Ok.ensures.kinds t)

@@ -5,6 +5,7 @@ use Rattle.sp_model.specs.Stepped.{Stepped}
 use Rattle.sp_durable.specs.Recovered.{IsLeftInCall}
 use Rattle.sp_kernel.specs.Answers.{Answers}
 use Rattle.sp_kernel.specs.Whole.{Whole}
+use Rattle.sp_journal.proofs.Kinding.{still_keeps}
 use Rattle.sp_kernel.proofs.Stillness.{still_leaves}
 use Rattle.sp_kernel.proofs.Telling.{turned_faultless, turned_provided}
 use Rattle.sp_state.specs.Held.{kernel_of}
@@ -41,3 +42,6 @@ returns-in-Some-clause-fault g c = λ e.
 pub returns-in-Some-clause-memory : goal.returns-in-Some-clause-memory
 returns-in-Some-clause-memory g c = λ e.
     absurd (turned_provided (kernel_of c.self.inside.state) c.args.event (sym c.turned_away.ensures ∙ c.in-Some.is ∙ ap (λ (a : Answer). Some a) e))
+
+pub returns-in-Some-clause-kinds : goal.returns-in-Some-clause-kinds
+returns-in-Some-clause-kinds g c = λ t. still_keeps _ _
