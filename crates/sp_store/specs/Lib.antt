@@ -1,2 +1,4 @@
 pub mod Files
+pub mod Keeping
 pub mod Opening
+pub mod Stopping

@@ -1,5 +1,5 @@
 // A kernel over the current one of a journal's two files.
-ghost use Rattle.std.specs.Prelude.{◌≡◌, ◌⊎◌, List, IsTrue, IfOk, IfErr, MatchResult};
+ghost use Rattle.std.specs.Prelude.{◌≡◌, ◌⊎◌, ℕ, List, IsTrue, IfOk, IfErr, MatchResult};
 ghost use Rattle.sp_disk.specs.Faults.{Rose};
 ghost use Rattle.sp_rect.specs.declared.record.Record.{Record as AnyRecord};
 ghost use Rattle.sp_node.specs.Table.{IsShape};
@@ -8,6 +8,8 @@ ghost use Rattle.sp_pair.specs.Pairs.{IsChosen, RefusedPair};
 ghost use Rattle.sp_model.specs.Opening.{IsOpened};
 ghost use Rattle.sp_store.specs.Opening.{IsOpenedOver, ComeFrom, RolesComeFrom, IsCurrent};
 ghost use Rattle.sp_store.specs.Files.{main_of, alt_of, Follows, told_as};
+ghost use Rattle.sp_store.specs.Keeping.{IsBeside};
+ghost use Rattle.sp_store.specs.Stopping.{IsTurned, SinceChosen, SinceOpened};
 
 use sp_audit::Audit;
 use sp_disk::Disk;
@@ -80,6 +82,8 @@ impl<D: Disk> Store<D> {
 fn renew<D: Disk>(alloc: Global, chosen: Chosen<D>) -> Result<Chosen<D>, (Chosen<D>, JournalError)>
     ensures come { IsTrue (D.tells chosen.current) → IsTrue (D.tells chosen.other) → IsAtRest chosen.is_alt chosen.generation (D.reads chosen.current) (D.reads chosen.other) (D.images chosen.current (D.moment chosen.current)) (D.images chosen.other (D.moment chosen.other)) → IfOk result (λ c. RolesComeFrom chosen.is_alt (D.reads chosen.current) (D.reads chosen.other) c.is_alt (D.reads c.current) (D.reads c.other)) }
     ensures current { IsTrue (D.tells chosen.current) → IsTrue (D.tells chosen.other) → IsAtRest chosen.is_alt chosen.generation (D.reads chosen.current) (D.reads chosen.other) (D.images chosen.current (D.moment chosen.current)) (D.images chosen.other (D.moment chosen.other)) → IfOk result (λ c. IsCurrent c.is_alt (D.reads c.current) (D.reads c.other)) }
+    ensures alone { IsTrue (D.tells chosen.current) → IsTrue (D.tells chosen.other) → IsAtRest chosen.is_alt chosen.generation (D.reads chosen.current) (D.reads chosen.other) (D.images chosen.current (D.moment chosen.current)) (D.images chosen.other (D.moment chosen.other)) → IfOk result (λ c. (file : List ℕ) → D.images c.other (D.moment c.other) file → file ≡ D.reads c.other) }
+    ensures crash { IfOk result (λ c. ((c.is_alt ≡ chosen.is_alt) × (c.current ≡ chosen.current) × (c.other ≡ chosen.other)) ⊎ IsTurned D.tells D.reads D.moment D.images chosen.is_alt chosen.generation chosen.current chosen.other c.is_alt c.current c.other) }
     ensures refused { IsTrue (D.tells chosen.current) → IsTrue (D.tells chosen.other) → IsAtRest chosen.is_alt chosen.generation (D.reads chosen.current) (D.reads chosen.other) (D.images chosen.current (D.moment chosen.current)) (D.images chosen.other (D.moment chosen.other)) → IsChosen (first_of chosen.is_alt (D.reads chosen.current) (D.reads chosen.other)) (second_of chosen.is_alt (D.reads chosen.current) (D.reads chosen.other)) chosen.is_alt chosen.version chosen.generation → IfErr result (λ e. RefusedPair e.1 (first_of chosen.is_alt (D.reads chosen.current) (D.reads chosen.other)) (second_of chosen.is_alt (D.reads chosen.current) (D.reads chosen.other))) }
     ensures renewed { IfOk result (λ c. c.version ≡ 1 → c.generation ≡ 0 → ⊥) }
     ensures unworn { IfErr result (λ e. e.1 ≡ JournalError.Worn → ⊥) }
@@ -103,6 +107,8 @@ fn choose_renewed<D: Disk>(
 ) -> Result<Chosen<D>, (Pair<D>, JournalError)>
     ensures come { IsTrue (D.tells pair.main) → IsTrue (D.tells pair.alt) → IfOk result (λ c. ComeFrom (D.reads pair.main) (D.reads pair.alt) (first_of c.is_alt (D.reads c.current) (D.reads c.other)) (second_of c.is_alt (D.reads c.current) (D.reads c.other))) }
     ensures current { IsTrue (D.tells pair.main) → IsTrue (D.tells pair.alt) → IfOk result (λ c. IsTrue (D.tells c.current) × IsCurrent c.is_alt (D.reads c.current) (D.reads c.other)) }
+    ensures alone { IsTrue (D.tells pair.main) → IsTrue (D.tells pair.alt) → IfOk result (λ c. (file : List ℕ) → D.images c.other (D.moment c.other) file → file ≡ D.reads c.other) }
+    ensures crash { IsTrue (D.tells pair.main) → IsTrue (D.tells pair.alt) → IfOk result (λ c. SinceChosen D.reads D.moment D.images pair.main pair.alt c.is_alt c.current c.other) }
     ensures refused { IsTrue (D.tells pair.main) → IsTrue (D.tells pair.alt) → IfErr result (λ e. RefusedPair e.1 (D.reads pair.main) (D.reads pair.alt)) }
     ensures renewed { IfOk result (λ c. c.version ≡ 1 → c.generation ≡ 0 → ⊥) }
     ensures unworn { IfErr result (λ e. e.1 ≡ JournalError.Worn → ⊥) }
@@ -126,6 +132,8 @@ fn start_over<D: Disk>(
     requires { IsShape shape }
     ensures opened { IfOk result (λ store. (records : List AnyRecord) × IsOpened shape records store.kernel.kernel) }
     ensures over { IsTrue (D.tells chosen.current) → IsCurrent chosen.is_alt (D.reads chosen.current) (D.reads chosen.other) → IfOk result (λ store. IsOpenedOver (first_of chosen.is_alt (D.reads chosen.current) (D.reads chosen.other)) (second_of chosen.is_alt (D.reads chosen.current) (D.reads chosen.other)) shape store.kernel.kernel) }
+    ensures beside { IsTrue (D.tells chosen.current) → IsCurrent chosen.is_alt (D.reads chosen.current) (D.reads chosen.other) → ((file : List ℕ) → D.images chosen.other (D.moment chosen.other) file → file ≡ D.reads chosen.other) → IfOk result (λ store. IsBeside store.is_alt (D.reads store.other) (D.images store.kernel.disk (D.moment store.kernel.disk)) (D.images store.other (D.moment store.other))) }
+    ensures crash { (main alt : D) → IsTrue (D.tells chosen.current) → IsCurrent chosen.is_alt (D.reads chosen.current) (D.reads chosen.other) → SinceChosen D.reads D.moment D.images main alt chosen.is_alt chosen.current chosen.other → IfOk result (λ s. SinceOpened D.reads D.moment D.images main alt s.is_alt s.kernel.disk s.other) }
     ensures refused { IsTrue (D.tells chosen.current) → IsCurrent chosen.is_alt (D.reads chosen.current) (D.reads chosen.other) → IfErr result (λ e. RefusedPair e.1 (first_of chosen.is_alt (D.reads chosen.current) (D.reads chosen.other)) (second_of chosen.is_alt (D.reads chosen.current) (D.reads chosen.other))) }
     ensures unworn { IfErr result (λ e. e.1 ≡ JournalError.Worn → ⊥) }
     ensures main_same { MatchResult result (λ s. Follows D.tells D.faults (main_of chosen.is_alt chosen.current chosen.other) (main_of s.is_alt s.kernel.disk s.other)) (λ e. Follows D.tells D.faults (main_of chosen.is_alt chosen.current chosen.other) e.0.main) }
@@ -153,6 +161,12 @@ fn start_over<D: Disk>(
 /// version 1 is written anew. `shape` bounds the members of a node. Over disks that tell their bytes the kernel is the
 /// one that opening gives over the records that the two files hold, and `Foreign` and `Damaged` come only where they
 /// are so. `Fault` comes only where the count of one of the two rose. With an error the two files are handed back.
+/// From the first syncs on, which are the first calls, up to the start of the kernel, whichever two files a stop leaves
+/// hold the same records, or are damaged at the same offset.
+///
+/// Then the kernel's file is the current one beside the other as it reads, with nothing pending on that: so whatever a
+/// stop leaves while the kernel runs, the two files hold what the kernel's one does
+/// ([`two_files_hold_what_the_current_one_does`](crate::two_files_hold_what_the_current_one_does)).
 pub fn open_store<D: Disk>(
     alloc: Global,
     pair: Pair<D>,
@@ -161,6 +175,8 @@ pub fn open_store<D: Disk>(
     requires { IsShape shape }
     ensures opened { IfOk result (λ store. (records : List AnyRecord) × IsOpened shape records store.kernel.kernel) }
     ensures over { IsTrue (D.tells pair.main) → IsTrue (D.tells pair.alt) → IfOk result (λ store. IsOpenedOver (D.reads pair.main) (D.reads pair.alt) shape store.kernel.kernel) }
+    ensures beside { IsTrue (D.tells pair.main) → IsTrue (D.tells pair.alt) → IfOk result (λ store. IsBeside store.is_alt (D.reads store.other) (D.images store.kernel.disk (D.moment store.kernel.disk)) (D.images store.other (D.moment store.other))) }
+    ensures crash { IsTrue (D.tells pair.main) → IsTrue (D.tells pair.alt) → IfOk result (λ store. SinceOpened D.reads D.moment D.images pair.main pair.alt store.is_alt store.kernel.disk store.other) }
     ensures refused { IsTrue (D.tells pair.main) → IsTrue (D.tells pair.alt) → IfErr result (λ e. RefusedPair e.1 (D.reads pair.main) (D.reads pair.alt)) }
     ensures unworn { IfErr result (λ e. e.1 ≡ JournalError.Worn → ⊥) }
     ensures main_same { MatchResult result (λ s. Follows D.tells D.faults pair.main (main_of s.is_alt s.kernel.disk s.other)) (λ e. Follows D.tells D.faults pair.main e.0.main) }
