@@ -5,6 +5,7 @@ use Rattle.sp_disk.specs.Moments.{LeavesOnly}
 use Rattle.sp_event.specs.declared.event.Event.{Event}
 use Rattle.sp_event.specs.declared.answer.Answer.{Answer}
 use Rattle.sp_event.specs.declared.answer.Answer.TheVariants.{DiskFault}
+use Rattle.sp_journal.specs.Kinds.{KeepsOneOf}
 use Rattle.sp_journal.specs.declared.work.Phase.{Phase}
 use Rattle.sp_journal.specs.declared.work.Phase.TheVariants.{Ready, Written, Settled, Opened, Broken}
 use Rattle.sp_model.specs.State.{Kernel}
@@ -27,9 +28,10 @@ module _ {D : Type 0} (tells takes : D → Bool) (faults moment : D → ℕ) (im
   -- one event
   pub course_one : (v w : Whole D) (event : Event) (answer : Answer) → Answers v.kernel event answer w.kernel
       → (IsTrue (tells v.disk) → LeavesOnly (moment v.disk) (moment w.disk) (images v.disk) (images w.disk) (IsLeftInCall v.work.phase v.kernel))
+      → (IsTrue (tells v.disk) → LeavesOnly (moment v.disk) (moment w.disk) (images v.disk) (images w.disk) (KeepsOneOf (images v.disk (moment v.disk))))
       → faults v.disk ≤ faults w.disk → (answer ≡ DiskFault → Rose (faults v.disk) (faults w.disk)) → tells w.disk ≡ tells v.disk → takes w.disk ≡ takes v.disk
       → Course tells takes faults moment images v w
-  course_one v w event answer answers crash later fault same_tells same_takes = record {
+  course_one v w event answer answers crash kinds later fault same_tells same_takes = record {
     leads = leads_one v.kernel event answer w.kernel answers;
     crash = λ t. inr (let c = crash t in record {
       later = c.later;
@@ -41,6 +43,7 @@ module _ {D : Type 0} (tells takes : D → Bool) (faults moment : D → ℕ) (im
       };
       past = c.past;
     });
+    kinds = kinds;
     later = later;
     stops = λ e. fold_or (answer_stops v.kernel event answer w.kernel answers e);
     same_tells = same_tells;

@@ -7,6 +7,7 @@ use Rattle.sp_disk.specs.Moments.{LeavesOnly}
 use Rattle.sp_event.specs.declared.event.Event.{Event}
 use Rattle.sp_event.specs.declared.answer.Answer.{Answer}
 use Rattle.sp_event.specs.declared.step.Step.{Step}
+use Rattle.sp_journal.proofs.Kinding.{still_keeps, runs_keep}
 use Rattle.sp_model.specs.State.{Kernel}
 use Rattle.sp_kernel.specs.Answers.{Answers, Histories}
 use Rattle.sp_kernel.specs.Whole.{Whole}
@@ -37,6 +38,7 @@ module _ {D : Type 0} (tells takes : D → Bool) (faults moment : D → ℕ) (im
   course_none w = record {
     leads = leads_none w.kernel;
     crash = λ t. inl (record { kernel = refl; disk = refl });
+    kinds = λ t. still_keeps (moment w.disk) (images w.disk);
     later = omega arith;
     stops = λ e. inl e;
     same_tells = refl;
@@ -54,6 +56,7 @@ module _ {D : Type 0} (tells takes : D → Bool) (faults moment : D → ℕ) (im
   course_join u v w a b = record {
     leads = leads_join u.kernel v.kernel w.kernel a.leads b.leads;
     crash = λ t. crash (a.crash t) (b.crash (subst (λ (c : Bool). IsTrue c) (sym a.same_tells) t));
+    kinds = λ t. runs_keep (moment u.disk) (moment v.disk) (moment w.disk) (images u.disk) (images v.disk) (images w.disk) (a.kinds t) (b.kinds (subst (λ (c : Bool). IsTrue c) (sym a.same_tells) t));
     later = omega (arith, a.later, b.later);
     stops = λ e. stops (a.stops e);
     same_tells = b.same_tells ∙ a.same_tells;

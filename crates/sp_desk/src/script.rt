@@ -3,6 +3,7 @@ ghost use Rattle.std.specs.Prelude.{◌≡◌, ◌≤◌, ◌^◌, [], None, IsT
 ghost use Rattle.sp_io.specs.Faults.{Rose};
 ghost use Rattle.sp_disk.specs.Faults.{Rose as DiskRose};
 ghost use Rattle.sp_disk.specs.Moments.{LeavesOnly};
+ghost use Rattle.sp_journal.specs.Kinds.{KeepsOneOf};
 ghost use Rattle.sp_rect.specs.Serial.{Serial};
 ghost use Rattle.sp_text.specs.declared.form.Form.TheVariants.{Play};
 ghost use Rattle.sp_text.specs.Texts.{render};
@@ -30,7 +31,8 @@ use std::alloc::Global;
 /// be rolled back. It ends by `ReadFault` or `WriteFault` only where that object's count rose, by `DiskFault` only where the disk's count rose or
 /// the kernel was stopped before, and by `Long` where as much was read as is read at most, and the source has not ended. With `DiskFault` and
 /// `Memory` events of the next command may be done that no item tells. Whatever the end, a stop at any moment leaves a file that is recovered as a
-/// kernel on the way has it. Costs what the events cost, and each line an event for each operation that waits.
+/// kernel on the way has it, and that keeps the kind of one that a stop before the run might have left. Costs what the events cost, and each line an
+/// event for each operation that waits.
 pub fn play<D: Disk, S: Source, K: Sink>(
     alloc: Global,
     kernel: &mut Kernel<D>,
@@ -44,6 +46,7 @@ pub fn play<D: Disk, S: Source, K: Sink>(
     ensures told { kernel.old.kernel.sessions ≡ [] → ToldBy result.end kernel.old.kernel.commits result.items kernel.new.kernel }
     ensures closed { result.end ≡ End.Input → AreOver kernel.new.kernel script_sessions }
     ensures crash { IsTrue (D.tells kernel.old.disk) → LeavesOnly (D.moment kernel.old.disk) (D.moment kernel.new.disk) (D.images kernel.old.disk) (D.images kernel.new.disk) (IsLeftBetween kernel.old.kernel kernel.new.kernel) }
+    ensures kinds { IsTrue (D.tells kernel.old.disk) → LeavesOnly (D.moment kernel.old.disk) (D.moment kernel.new.disk) (D.images kernel.old.disk) (D.images kernel.new.disk) (KeepsOneOf (D.images kernel.old.disk (D.moment kernel.old.disk))) }
     ensures serial { Serial kernel.new.kernel.base kernel.new.kernel.commits }
     ensures base { kernel.new.kernel.base ≡ kernel.old.kernel.base }
     ensures read_fault { result.end ≡ End.ReadFault → Rose (S.read_faults source.old) (S.read_faults source.new) }

@@ -6,6 +6,7 @@ use Rattle.sp_disk.specs.Moments.{LeavesOnly}
 use Rattle.sp_event.specs.declared.event.Event.TheVariants.{Commit, Flush}
 use Rattle.sp_event.specs.declared.answer.Answer.TheVariants.{DiskFault}
 use Rattle.sp_event.specs.declared.step.Step.{Step}
+use Rattle.sp_journal.proofs.Kinding.{still_keeps, runs_keep}
 use Rattle.sp_text.specs.declared.form.Form.TheVariants.{Drill}
 use Rattle.sp_text.specs.declared.types.Item.{Item}
 use Rattle.sp_text.specs.declared.types.Item.TheVariants.{Bad, Stepped}
@@ -90,7 +91,7 @@ module _ {D : Type 0} (tells takes : D → Bool) (faults moment : D → ℕ) (im
   LeavesBetween w v = LeavesOnly (moment w.disk) (moment v.disk) (images w.disk) (images v.disk) (IsLeftBetween w.kernel v.kernel)
 
   pub leads_none : (w : Whole D) → Leads tells takes faults moment images w w
-  leads_none w = record { goes = stays w.kernel; leaves = λ t. inl refl; later = omega arith; same_tells = refl; same_takes = refl }
+  leads_none w = record { goes = stays w.kernel; leaves = λ t. inl refl; kinds = λ t. still_keeps (moment w.disk) (images w.disk); later = omega arith; same_tells = refl; same_takes = refl }
 
   module _ (w v u : Whole D) (first : LeadsTo w.kernel v.kernel) (second : LeadsTo v.kernel u.kernel) where
     leaves_more : (v ≡ w) ⊎ LeavesBetween w v → (u ≡ v) ⊎ LeavesBetween v u → (u ≡ w) ⊎ LeavesBetween w u
@@ -106,6 +107,7 @@ module _ {D : Type 0} (tells takes : D → Bool) (faults moment : D → ℕ) (im
   leads_more w v u p q = record {
     goes = joins w.kernel v.kernel u.kernel p.goes q.goes;
     leaves = λ t. leaves_more w v u p.goes q.goes (p.leaves t) (q.leaves (subst (λ (b : Bool). IsTrue b) (sym p.same_tells) t));
+    kinds = λ t. runs_keep (moment w.disk) (moment v.disk) (moment u.disk) (images w.disk) (images v.disk) (images u.disk) (p.kinds t) (q.kinds (subst (λ (b : Bool). IsTrue b) (sym p.same_tells) t));
     later = let l = p.later in let m = q.later in omega arith;
     same_tells = q.same_tells ∙ p.same_tells;
     same_takes = q.same_takes ∙ p.same_takes;

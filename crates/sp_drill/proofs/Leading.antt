@@ -3,6 +3,7 @@ use Rattle.std.proofs.Common.{◌≡◌, ◌⊎◌, inl, inr, ◌≤◌, ℕ, Bo
 use Rattle.sp_disk.specs.Moments.{LeavesOnly}
 use Rattle.sp_event.specs.declared.event.Event.{Event}
 use Rattle.sp_event.specs.declared.answer.Answer.{Answer}
+use Rattle.sp_journal.specs.Kinds.{KeepsOneOf}
 use Rattle.sp_journal.specs.declared.work.Phase.{Phase}
 use Rattle.sp_journal.specs.declared.work.Phase.TheVariants.{Ready, Written, Settled, Opened, Broken}
 use Rattle.sp_model.specs.State.{Kernel}
@@ -44,12 +45,14 @@ module _ {D : Type 0} (tells takes : D → Bool) (faults moment : D → ℕ) (im
 
   pub leads_step : (w v : Whole D) (event : Event) (answer : Answer) (phase : Phase) → Answers w.kernel event answer v.kernel
       → (IsTrue (tells w.disk) → LeavesOnly (moment w.disk) (moment v.disk) (images w.disk) (images v.disk) (IsLeftInCall phase w.kernel))
+      → (IsTrue (tells w.disk) → LeavesOnly (moment w.disk) (moment v.disk) (images w.disk) (images v.disk) (KeepsOneOf (images w.disk (moment w.disk))))
       → faults w.disk ≤ faults v.disk → tells v.disk ≡ tells w.disk → takes v.disk ≡ takes w.disk → Leads tells takes faults moment images w v
-  leads_step w v event answer phase answers leaves later same_tells same_takes =
+  leads_step w v event answer phase answers leaves kinds later same_tells same_takes =
       let goes = one_step w.kernel event answer v.kernel answers in
       record {
         goes = goes;
         leaves = λ t. inr (leaves_weaker (moment w.disk) (moment v.disk) (images w.disk) (images v.disk) (IsLeftInCall phase w.kernel) (IsLeftBetween w.kernel v.kernel) (λ file h. left_at_start w.kernel v.kernel file goes (held_in_call phase w.kernel file h)) (leaves t));
+        kinds = kinds;
         later = later;
         same_tells = same_tells;
         same_takes = same_takes;

@@ -3,6 +3,7 @@ ghost use Rattle.std.specs.Prelude.{◌≡◌, ◌≤◌, ◌^◌, [], IsTrue};
 ghost use Rattle.sp_io.specs.Faults.{Rose};
 ghost use Rattle.sp_disk.specs.Faults.{Rose as DiskRose};
 ghost use Rattle.sp_disk.specs.Moments.{LeavesOnly};
+ghost use Rattle.sp_journal.specs.Kinds.{KeepsOneOf};
 ghost use Rattle.sp_rect.specs.Serial.{Serial};
 ghost use Rattle.sp_text.specs.declared.form.Form.TheVariants.{Drill};
 ghost use Rattle.sp_text.specs.Texts.{render};
@@ -28,7 +29,8 @@ use std::alloc::Global;
 /// It ends by `Input` where the script was read to its end and all was written; by `ReadFault`, `WriteFault` or `DiskFault` only where that
 /// object's count rose; and by `Long` where as much was read as is read at most, and the source has not ended. A fault of the disk is the answer to
 /// a flush, the last item. With `Memory` the kernel may be one event further than the items tell. Whatever the end, a stop at any moment leaves a
-/// file that is recovered as a kernel on the way has it. Costs what the events cost.
+/// file that is recovered as a kernel on the way has it, and that keeps the kind of one that a stop before the run might have left. Costs what the
+/// events cost.
 pub fn drill<D: Disk, S: Source, K: Sink>(
     alloc: Global,
     kernel: &mut Kernel<D>,
@@ -41,6 +43,7 @@ pub fn drill<D: Disk, S: Source, K: Sink>(
     // What was told of commits is what the kernel has more than before, where no session had a transaction before.
     ensures told { kernel.old.kernel.sessions ≡ [] → ToldBy result.end kernel.old.kernel.commits result.items kernel.new.kernel }
     ensures crash { IsTrue (D.tells kernel.old.disk) → LeavesOnly (D.moment kernel.old.disk) (D.moment kernel.new.disk) (D.images kernel.old.disk) (D.images kernel.new.disk) (IsLeftBetween kernel.old.kernel kernel.new.kernel) }
+    ensures kinds { IsTrue (D.tells kernel.old.disk) → LeavesOnly (D.moment kernel.old.disk) (D.moment kernel.new.disk) (D.images kernel.old.disk) (D.images kernel.new.disk) (KeepsOneOf (D.images kernel.old.disk (D.moment kernel.old.disk))) }
     ensures serial { Serial kernel.new.kernel.base kernel.new.kernel.commits }
     ensures base { kernel.new.kernel.base ≡ kernel.old.kernel.base }
     ensures read_fault { result.end ≡ End.ReadFault → Rose (S.read_faults source.old) (S.read_faults source.new) }

@@ -69,3 +69,6 @@ returns-clause-takes g c =
 pub returns-clause-ends : goal.returns-clause-ends
 returns-clause-ends g c =
     ends_run _ _ c.run-end.result (g.S.Source.left c.args.source.now) (g.S.Source.left c.run-end.new.source) c.run-end.ensures.runs
+
+pub returns-clause-kinds : goal.returns-clause-kinds
+returns-clause-kinds g c = (run_course g.D.Disk.tells g.D.Disk.takes_memory g.D.Disk.faults g.D.Disk.moment g.D.Disk.images (place c.new-desk.result.scribe.items c.new-desk.result.stalled.items c.args.kernel.now.kernel (g.K.Sink.taken c.args.sink.now)) (place c.run-end.new.desk.scribe.items c.run-end.new.desk.stalled.items c.run-end.new.kernel.kernel (g.K.Sink.taken c.run-end.new.sink)) c.args.kernel.now c.run-end.new.kernel c.new-desk.ensures.items c.run-end.result (g.S.Source.left c.args.source.now) (g.S.Source.left c.run-end.new.source) c.run-end.ensures.runs).kinds

@@ -25,3 +25,9 @@ loop-next-preserved-in-Some g c = record {
   reaches = goes_on _ _ _ _ _ _ _ _ _ c.loop-next.invariant.reaches c.event.ensures c.step-answer.ensures.answers (sym c.after.ensures.next ∙ c.in-Some.is);
   course = course_join _ _ _ _ _ _ _ _ c.loop-next.invariant.course c.step-answer.ensures.course;
 }
+
+pub loop-next-preserved-in-Some-2 : goal.loop-next-preserved-in-Some-2
+loop-next-preserved-in-Some-2 g c = record {
+  reaches = goes_on _ _ _ _ _ _ _ _ _ c.loop-next.invariant.reaches c.event.ensures c.step-answer.ensures.answers (sym c.after.ensures.next ∙ c.in-Some.is);
+  course = course_join _ _ _ _ _ _ _ _ c.loop-next.invariant.course c.step-answer.ensures.course;
+}

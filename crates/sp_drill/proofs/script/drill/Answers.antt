@@ -50,3 +50,6 @@ pub returns-clause-told : goal.returns-clause-told
 returns-clause-told g c = λ none.
     subst (λ (is : List Item). ToldBy c.run-end.result c.args.kernel.now.kernel.commits is c.run-end.new.kernel.kernel) (sym c.into_items.ensures)
     (told_by c.run-end.result c.args.kernel.now.kernel c.run-end.new.kernel.kernel _ c.audit-sound.ensures.sound none (run_drills g.D.Disk.tells g.D.Disk.takes_memory g.D.Disk.faults g.D.Disk.moment g.D.Disk.images c.new-driller.result.scribe c.args.kernel.now (g.K.Sink.taken c.args.sink.now) c.run-end.new.driller.scribe c.run-end.new.kernel (g.K.Sink.taken c.run-end.new.sink) c.new-driller.ensures.items (g.S.Source.left c.args.source.now) (g.S.Source.left c.run-end.new.source) c.run-end.result c.run-end.ensures.runs))
+
+pub returns-clause-kinds : goal.returns-clause-kinds
+returns-clause-kinds g c = (run_leads g.D.Disk.tells g.D.Disk.takes_memory g.D.Disk.faults g.D.Disk.moment g.D.Disk.images c.new-driller.result.scribe c.args.kernel.now (g.K.Sink.taken c.args.sink.now) c.run-end.new.driller.scribe c.run-end.new.kernel (g.K.Sink.taken c.run-end.new.sink) c.new-driller.ensures.items (g.S.Source.left c.args.source.now) (g.S.Source.left c.run-end.new.source) c.run-end.result c.run-end.ensures.runs).kinds
