@@ -1,0 +1,5 @@
+pub mod Scripts
+pub mod Writing
+pub mod Running
+pub mod Holding
+pub mod Opening
