@@ -1,0 +1,10 @@
+use Rattle.std.proofs.Common.{rules, tests}
+use Rattle.std.proofs.lemmas.Iterator.{YieldsList-from_slice}
+use Rattle.std.proofs.lemmas.Iterator.Consumers.{YieldsList-from_filter, count_from_yields_List}
+use Rattle.sp_stress.specs.Summing.{says_waits, tells_such}
+use Rattle.sp_stress.proofs.summing.count_waits.Goals as goal
+
+pub returns : goal.returns
+returns c =
+    count_from_yields_List c.filter.result _ c.count.ensures.ran
+    (YieldsList-from_filter _ (tells_such says_waits) (YieldsList-from_slice c.args.items.now cc) c.filter.ensures.closure (λ x b q k. search (rules, tests)))
