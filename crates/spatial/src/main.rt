@@ -5,12 +5,12 @@ mod done;
 mod ending;
 mod making;
 mod offline;
-mod playing;
 
 use offline::offline;
 use sp_disk::FileShelf;
 use sp_io::{StdSink, StdSource, Words};
 use std::env;
+use std::io::ErrorKind;
 use std::process::ExitCode;
 
 // The status where there is no memory for the words.
@@ -20,12 +20,16 @@ const NO_MEMORY: u8 = 6;
 // text are no command, so none are handed on.
 fn main(rt: HostRuntime) -> ExitCode {
     let mut words = Words::new(rt.alloc());
-    if let Ok(args) = env::args(&rt) {
-        for word in args.skip(1) {
-            if words.push(word.as_str()).is_err() {
-                return ExitCode::from(NO_MEMORY);
+    match env::args(&rt) {
+        Ok(args) => {
+            for word in args.skip(1) {
+                if words.push(word.as_str()).is_err() {
+                    return ExitCode::from(NO_MEMORY);
+                }
             }
         }
+        Err(error) if error.kind() == ErrorKind::OutOfMemory => return ExitCode::from(NO_MEMORY),
+        Err(_) => {}
     }
     let mut source = StdSource::new(rt.stdin());
     let mut sink = StdSink::new(rt.stdout());

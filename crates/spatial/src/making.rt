@@ -1,31 +1,24 @@
 // Generated scripts are written.
-ghost use Rattle.std.specs.Prelude.{◌≡◌, ◌<◌, []};
-ghost use Rattle.sp_play.specs.Script.{PlaysTo};
-ghost use Rattle.spatial.specs.Commands.{Makes};
-ghost use Rattle.spatial.specs.Offline.{status_of};
+ghost use Rattle.std.specs.Prelude.{◌<◌};
+ghost use Rattle.spatial.specs.Commands.{status_of, Makes};
 
-use crate::playing::refuse;
 use sp_io::{Sink, write_all};
+use sp_runs::write_last;
 use sp_script::script;
-use sp_text::{End, Items, Transcript};
+use sp_text::End;
 use std::alloc::Global;
 
-// Writes the script of this seed, with that many rounds. Nothing is heard.
-pub(crate) fn make<K: Sink>(alloc: Global, sink: &mut K, seed: u64, count: u64) -> Transcript
+// Writes the script of this seed, with that many rounds, and says how that ended.
+pub(crate) fn make<K: Sink>(alloc: Global, sink: &mut K, seed: u64, count: u64) -> End
     requires { seed < 2147483647 }
-    ensures written { Makes (status_of result.end) seed count (K.taken sink.old) (K.taken sink.new) (K.write_faults sink.old) (K.write_faults sink.new) }
-    ensures items { result.items ≡ [] }
-    ensures answers { PlaysTo result.end result.items }
+    ensures written { Makes (status_of result) seed count (K.taken sink.old) (K.taken sink.new) (K.write_faults sink.old) (K.write_faults sink.new) }
 {
     let Ok(text) = script(alloc, seed, count) else {
-        return refuse(alloc, sink, End::Memory);
+        write_last(sink, End::Memory);
+        return End::Memory;
     };
-    let end = match write_all(sink, text.bytes()) {
+    match write_all(sink, text.bytes()) {
         Ok(()) => End::Input,
         Err(_) => End::WriteFault,
-    };
-    Transcript {
-        items: Items::new(alloc),
-        end,
     }
 }

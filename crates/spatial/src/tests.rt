@@ -1,264 +1,131 @@
-// Runs of the top call: worked scripts, lines that are no commands, and faults.
+// Runs of the top call: worked scripts of commands and of events, over memory and over journals; the words; limits; and each call of the outside failing.
+mod events;
+mod examples;
+mod faults;
 mod journals;
+mod limits;
+mod lines;
+mod scripts;
+mod words;
 
 use crate::done::Done;
 use crate::offline::offline;
 use sp_disk::{MemDisk, MemShelf};
 use sp_io::{MemSink, MemSource, Words};
-use std::alloc::{AllocError, Global};
+use sp_text::End;
+use std::alloc::Global;
 use std::test::Fail;
 
+// A script, and what it writes.
+type Row = (&'static str, &'static str);
+
+// The bytes of a journal's two files.
+type Files<'a> = (&'a [u8], &'a [u8]);
+
+const NO_FILES: Files<'static> = (b"", b"");
+
+// The journal `J1` in version 1, with one batch of one commit, which puts five records: with nodes of 2 to 4 members the leaf 1 has the records 1, 2
+// and 5, and the leaf 2 far in the east has 3 and 4.
+const J1: &[u8] =
+    b"SPJL\0\0\0\x01\0\0\0\0\0\0\0\0\x01\0\0\0\x8f\0\0\0\x01\0\0\0\x05\x01\0\0\0\0\0\0\0\x01\0\0\0\0\0\0\0\0\0\0\0\x02\0\0\0\x02\x01a\x01\0\0\0\0\0\0\0\x02\0\0\0\x08\0\0\0\x08\0\0\0\x0a\0\0\0\x0a\x01b\x01\0\0\0\0\0\0\0\x03\0\0\0d\0\0\0\0\0\0\0f\0\0\0\x02\x01c\x01\0\0\0\0\0\0\0\x04\0\0\0l\0\0\0\x08\0\0\0n\0\0\0\x0a\x01d\x01\0\0\0\0\0\0\0\x05\0\0\0\x04\0\0\0\x04\0\0\0\x06\0\0\0\x06\x01e\0";
+
+// The script that makes such a journal.
+const APART: Row = (
+    "Z begin\nZ put 1 0 0 2 2 a\nZ put 2 8 8 10 10 b\nZ put 3 100 0 102 2 c\nZ put 4 108 8 110 10 d\nZ put 5 4 4 6 6 e\nZ commit\n",
+    "Z began 0\nZ done\nZ done\nZ done\nZ done\nZ done\nZ committed 1\n",
+);
+
+// Each searches where the other then adds a record: over the records of `J1`.
+const DEADLOCK: Row = (
+    "A begin\nA find 1 1 3 3\nB begin\nB find 101 1 103 3\nA put 6 104 4 105 5 f\nB put 7 3 3 4 4 g\nA commit\nB commit\n",
+    "A began 0\nA found 1\nA rec 1 0 0 2 2 a\nB began 0\nB found 1\nB rec 3 100 0 102 2 c\nA waits granule 2 IX B\nB deadlock 2\nB edge B A granule 1 IX held S\nB edge A B granule 2 IX held S\nA done\nA committed 1\nB refused notxn\n",
+);
+
+// The numbers of the calls that are to fail, counted from 1: reads, writes, calls of the shelf and of its two disks. 0 is no call's number.
+#[derive(Clone, Copy, Debug)]
+struct Fails {
+    read: u64,
+    write: u64,
+    fetch: u64,
+    main: u64,
+    alt: u64,
+}
+
+const NO_FAILS: Fails = Fails {
+    read: 0,
+    write: 0,
+    fetch: 0,
+    main: 0,
+    alt: 0,
+};
+
+// What a run left.
 #[derive(Drop)]
 struct Ran {
     done: Done<MemDisk>,
     sink: MemSink,
 }
 
-// Runs the script under these words, in pieces of that size, where the reads and writes of these numbers
-// fail.
-fn run(
-    alloc: Global,
-    words: &[&str],
-    script: &str,
-    piece: usize,
-    read_fails: &[u64],
-    write_fails: &[u64],
-) -> Result<Ran, AllocError> {
-    let mut list = Words::new(alloc);
-    for word in words {
-        list.push(word)?;
-    }
+// A shelf that holds these two files as `J1` and `J1.alt`.
+fn shelf_of(alloc: Global, files: Files<'_>, fails: Fails) -> Result<MemShelf, Fail> {
+    let mut disks = Vec::new(alloc);
+    disks.push((
+        String::from_str(alloc, "J1")?,
+        MemDisk::new(alloc, files.0.to_vec(alloc)?, [fails.main].to_vec(alloc)?)?,
+    ))?;
+    disks.push((
+        String::from_str(alloc, "J1.alt")?,
+        MemDisk::new(alloc, files.1.to_vec(alloc)?, [fails.alt].to_vec(alloc)?)?,
+    ))?;
+    Ok(MemShelf::new(alloc, disks, [fails.fetch].to_vec(alloc)?)?)
+}
+
+// A source that gives the script in pieces of that size.
+fn source_of(alloc: Global, script: &str, piece: usize, fails: Fails) -> Result<MemSource, Fail> {
     let mut pieces = Vec::new(alloc);
     for part in script.as_bytes().chunks(piece.max(1)) {
         pieces.push(part.to_vec(alloc)?)?;
     }
-    let mut source = MemSource::new(alloc, pieces, read_fails.to_vec(alloc)?)?;
-    let mut sink = MemSink::new(alloc, write_fails.to_vec(alloc)?)?;
-    let mut shelf = MemShelf::new(alloc, Vec::new(alloc), Vec::new(alloc))?;
+    Ok(MemSource::new(alloc, pieces, [fails.read].to_vec(alloc)?)?)
+}
+
+// Runs the program under these words over such a source and shelf.
+fn run(
+    alloc: Global,
+    words: &[&str],
+    script: (&str, usize),
+    files: Files<'_>,
+    fails: Fails,
+) -> Result<Ran, Fail> {
+    let mut list = Words::new(alloc);
+    for word in words {
+        list.push(word)?;
+    }
+    let mut shelf = shelf_of(alloc, files, fails)?;
+    let mut source = source_of(alloc, script.0, script.1, fails)?;
+    let mut sink = MemSink::new(alloc, [fails.write].to_vec(alloc)?)?;
     let done = offline(alloc, &list, &mut source, &mut sink, &mut shelf);
     Ok(Ran { done, sink })
 }
 
-const CORNER: &str =
-    "A begin\nA put 1 -1073741824 -1073741824 -1073741824 -1073741824 corner\nA find -1073741824 -1073741824 -1073741824 -1073741824\nA commit\n";
-
-const CORNER_TEXT: &str =
-    "A began 0\nA done\nA found 1\nA rec 1 -1073741824 -1073741824 -1073741824 -1073741824 corner\nA committed 1\n";
-
-// The script and the output of examples/first.txt and examples/first.out.
-const PARCELS: &str =
-    "# Two parcels of land, in metres on the map sheet of a small town.\n# A transaction of session A: nothing counts before its commit.\nA begin\n# Parcel 1 lies at the corner of the market, parcel 2 beside it.\nA put 1 0 0 30 40 market-corner\nA put 2 31 0 55 40 bakery\n# An id is taken once: parcel 2 is there already.\nA put 2 60 0 80 40 stable\n# Who owns what along the lane that is planned from (25, 10) to (35, 12)?\nA find 25 10 35 12\nA commit\n# A point is a rectangle too: what stands on (70, 5)?\nA begin\nA find 70 5 70 5\nA commit\n";
-
-const PARCELS_TEXT: &str =
-    "A began 0\nA done\nA done\nA exists\nA found 2\nA rec 1 0 0 30 40 market-corner\nA rec 2 31 0 55 40 bakery\nA committed 1\nA began 1\nA found 0\nA committed 2\n";
-
-// The script and the output of examples/clerks.txt and examples/clerks.out.
-const CLERKS: &str =
-    "# Parcels of a new quarter, in metres, and clerks who take turns.\n# Clerk A enters three parcels.\nA begin\nA put 1 0 0 18 28 free\nA put 2 20 0 38 28 free\nA put 3 40 0 58 28 free\nA commit\n# Clerk B sells what lies along the lane, and takes parcel 3 off the map.\nB begin\nB fill 0 5 38 6 sold\nB get 1\nB drop 3\n# One transaction is open at a time.\nA begin\nB commit\n# A mistake is undone: nothing of it counts.\nA begin\nA clear 0 0 100 100\nA find 0 0 100 100\nA rollback\nA get 1\n# A third clerk has session B7.\nB7 begin\nB7 set 2 reserved\nB7 set 3 reserved\nB7 find 0 0 100 100\nB7 commit\n# Lines that are none of the language change nothing.\nA putt 4 0 0 1 1 x\nA put 4 0 0 1 x\n";
-
-const CLERKS_TEXT: &str =
-    "A began 0\nA done\nA done\nA done\nA committed 1\nB began 1\nB count 2\nB rec 1 0 0 18 28 sold\nB done\nA full transactions\nB committed 2\nA began 2\nA count 2\nA found 0\nA rolledback\nA refused notxn\nB7 began 2\nB7 done\nB7 absent\nB7 found 2\nB7 rec 1 0 0 18 28 sold\nB7 rec 2 20 0 38 28 reserved\nB7 committed 3\nA bad command\nA bad words\n";
-
-// One session on an empty store, which reads back its own changes.
-const OWN_CHANGES: &str =
-    "A begin\nA put 1 0 0 1 1 x\nA put 1 5 5 6 6 y\nA set 2 z\nA set 1 y\nA get 1\nA drop 1\nA drop 1\nA get 1\nA put 1 5 5 5 5 w\nA fill 0 0 9 9 v\nA clear 6 6 9 9\nA commit\nA begin\nA find 0 0 9 9\nA rollback\nA commit\n";
-
-const OWN_CHANGES_TEXT: &str =
-    "A began 0\nA done\nA exists\nA absent\nA done\nA rec 1 0 0 1 1 y\nA done\nA absent\nA absent\nA done\nA count 1\nA count 0\nA committed 1\nA began 1\nA found 1\nA rec 1 5 5 5 5 v\nA rolledback\nA refused notxn\n";
-
-// Sessions one after the other: one transaction is open at a time.
-const SESSIONS: &str =
-    "A begin\nA put 7 0 0 1 1 old\nB get 7\nB begin\nB commit\nB rollback\nA commit\nZ99 begin\nZ99 get 7\nA begin\nA00 find 0 0 0 0\nZ99 clear 0 0 9 9\nZ99 begin\nZ99 rollback\nA00 begin\nA00 fill 1 1 1 1 new\nA00 commit\nB begin\nB drop 7\n";
-
-const SESSIONS_TEXT: &str =
-    "A began 0\nA done\nB refused notxn\nB full transactions\nB refused notxn\nB refused notxn\nA committed 1\nZ99 began 1\nZ99 rec 7 0 0 1 1 old\nA full transactions\nA00 refused notxn\nZ99 count 1\nZ99 refused intxn\nZ99 rolledback\nA00 began 1\nA00 count 1\nA00 committed 2\nB began 2\nB done\nB rolledback\n";
-
-const WHOLE_SPACE: &str =
-    "A begin\nA find -1073741824 -1073741824 1073741823 1073741823\nA commit\n";
-
-// Scripts that are read to their end, and what they print; the pieces in which they come do not matter.
-#[test]
-fn scripts_print_their_answers(rt: HostRuntime) -> Result<(), Fail> {
-    for (script, text) in [
-        ("", ""),
-        (CORNER, CORNER_TEXT),
-        (PARCELS, PARCELS_TEXT),
-        (CLERKS, CLERKS_TEXT),
-        (WHOLE_SPACE, "A began 0\nA found 0\nA committed 1\n"),
-        (OWN_CHANGES, OWN_CHANGES_TEXT),
-        (SESSIONS, SESSIONS_TEXT),
-        // A bad line changes nothing.
-        (
-            "A begin\nA put 1 0 0 1073741824 0 x\nA put 1 0 0 0 0 x\n",
-            "A began 0\nA bad rect\nA done\nA rolledback\n",
-        ),
-        (
-            "a begin\nA\nA beginn\nA begin now\nA put 01 0 0 0 0 x\nA put 1 5 0 4 0 x\n\n#\nA get 1",
-            "? bad session\nA bad command\nA bad command\nA bad words\nA bad number\nA bad rect\nA refused notxn\n",
-        ),
-        // The last line needs no line end, and an open transaction is rolled back.
-        ("A get 1", "A refused notxn\n"),
-        (
-            "A begin\nA begin\nA put 7 1 1 1 1 x",
-            "A began 0\nA refused intxn\nA done\nA rolledback\n",
-        ),
-        // What was rolled back by the end of the input is nowhere; a CR before an LF is no part of a line.
-        (
-            "\n#\r\n# A begin\nA begin\r\nA commit\r\nA commit",
-            "A began 0\nA committed 1\nA refused notxn\n",
-        ),
-        // By ascending id, whatever the order of the puts; rectangles that touch meet.
-        (
-            "A begin\nA put 18446744073709551615 4 4 9 9 z\nA put 0 0 0 5 5 ~!\nA put 3 5 6 5 6 m\nA find 5 5 5 6\n",
-            "A began 0\nA done\nA done\nA done\nA found 3\nA rec 0 0 0 5 5 ~!\nA rec 3 5 6 5 6 m\nA rec 18446744073709551615 4 4 9 9 z\nA rolledback\n",
-        ),
-    ] {
-        for piece in [1, 7, 4096] {
-            let Ran { done, sink } = run(rt.alloc(), &["play"], script, piece, &[], &[])?;
-            assert_eq!(rt; done.status, 0);
-            assert_eq!(rt; sink.bytes(), text.as_bytes());
-        }
+// Runs the script over these files, where nothing fails, and wants it to be read to its end and to write that text.
+fn check(alloc: Global, words: &[&str], row: (&str, &str), files: Files<'_>) -> Result<Ran, Fail> {
+    let ran = run(alloc, words, (row.0, 4096), files, NO_FAILS)?;
+    if ran.done.status != 0 || ran.done.transcript.end != End::Input {
+        return Err(Fail::from(("another status", ran.done.status)));
     }
-    Ok(())
+    if ran.sink.bytes() != row.1.as_bytes() {
+        return Err(Fail::from("other answers"));
+    }
+    Ok(ran)
 }
 
-// Lines that are no commands: each is answered with the first reason why, and changes nothing.
-#[test]
-fn other_lines_are_bad(rt: HostRuntime) -> Result<(), Fail> {
-    for (line, text) in [
-        ("a begin", "? bad session\n"),
-        ("A", "A bad command\n"),
-        ("A ", "A bad command\n"),
-        (" A begin", "? bad session\n"),
-        ("A  begin", "A bad command\n"),
-        ("A begin ", "A bad words\n"),
-        ("A beginn", "A bad command\n"),
-        ("A begin now", "A bad words\n"),
-        ("A put 01 0 0 0 0 x", "A bad number\n"),
-        ("A put -1 0 0 0 0 x", "A bad number\n"),
-        ("A put 18446744073709551616 0 0 0 0 x", "A bad number\n"),
-        ("A put 1 -0 0 0 0 x", "A bad number\n"),
-        ("A put 1 00 0 0 0 x", "A bad number\n"),
-        ("A put 1 + 0 0 0 x", "A bad number\n"),
-        ("A put 1 - 0 0 0 x", "A bad number\n"),
-        ("A put 1 5 0 4 0 x", "A bad rect\n"),
-        ("A put 1 0 0 1073741824 0 x", "A bad rect\n"),
-        ("A put 1 -1073741825 0 0 0 x", "A bad rect\n"),
-        ("A put 1 0 0 0 99999999999 x", "A bad number\n"),
-        ("A put 1 0 0 0 0 ", "A bad value\n"),
-        ("A put 1 0 0 0 0", "A bad words\n"),
-        ("A put 1 0 0 0 0 x y", "A bad words\n"),
-        (
-            "A put 1 0 0 0 0 01234567890123456789012345678901234567890123456789012345678901234",
-            "A bad value\n",
-        ),
-        ("A put 1 0 0 0 0 caf\u{e9}", "A bad value\n"),
-        ("A put 1 0 0 0 0 x\u{0}", "A bad value\n"),
-        ("A find 0 0 0", "A bad words\n"),
-        ("A find 0 0 0 0 0", "A bad words\n"),
-        ("A find 0 0 0 0\r", "A bad number\n"),
-        ("\r", "? bad session\n"),
-        ("\u{0}", "? bad session\n"),
-        ("A flush", "A bad command\n"),
-        ("flush", "? bad session\n"),
-        ("A start get 1", "A bad command\n"),
-    ] {
-        let Ran { done, sink } = run(rt.alloc(), &["play"], line, 5, &[], &[])?;
-        assert_eq!(rt; done.status, 0);
-        assert_eq!(rt; sink.bytes(), text.as_bytes(), "at {line}");
+// The two disks that a run left.
+fn disks_of(ran: Ran) -> Result<(MemDisk, MemDisk), Fail> {
+    let Ran { done, .. } = ran;
+    let Done { disks, .. } = done;
+    match disks {
+        Some(pair) => Ok((pair.main, pair.alt)),
+        None => Err(Fail::from("no disks")),
     }
-    Ok(())
-}
-
-// A line of more than 512 bytes is bad however it goes on; a blank line may have any length.
-#[test]
-fn lines_of_any_length(rt: HostRuntime) -> Result<(), Fail> {
-    let alloc = rt.alloc();
-    for (spaces, end, first, text) in [
-        (505, "\n", "A begin", "A bad words\n"),
-        (505, "\r\n", "A begin", "A bad words\n"),
-        (506, "\n", "A begin", "? bad long\n"),
-        (506, "\r\n", "A begin", "? bad long\n"),
-        (505, "\r", "A begin", "? bad long\n"),
-        (506, "", "A begin", "? bad long\n"),
-        (2000, "\n", "A begin", "? bad long\n"),
-        (2000, "\n", "# begin", ""),
-        (2000, "", "# begin", ""),
-    ] {
-        let mut script = String::from_str(alloc, first)?;
-        for _ in 0..spaces {
-            script.push_str(" ")?;
-        }
-        script.push_str(end)?;
-        let Ran { done, sink } = run(alloc, &["play"], script.as_str(), 100, &[], &[])?;
-        assert_eq!(rt; done.status, 0);
-        assert_eq!(rt; sink.bytes(), text.as_bytes());
-    }
-    Ok(())
-}
-
-#[test]
-fn other_words_are_no_command(rt: HostRuntime) -> Result<(), Fail> {
-    for words in [
-        [].as_slice(),
-        &["play", "play"],
-        &["Play"],
-        &["play "],
-        &[""],
-        &["play", "--max", "3"],
-        &["play", "--max", "8", "--min", "5"],
-        &["play", "--max", "4", "--max", "4"],
-        &["dump"],
-        &["compact", "--journal", "-J1"],
-        &["make", "--seed", "0", "--count", "1"],
-        // Not done yet.
-        &["play", "--max", "4"],
-        &["drill"],
-        &["stress", "--seed", "1", "--count", "1"],
-    ] {
-        let Ran { done, sink } = run(rt.alloc(), words, CORNER, 7, &[], &[])?;
-        assert_eq!(rt; done.status, 1);
-        assert_eq!(rt; sink.bytes(), b"! usage\n".as_slice());
-        assert_eq!(rt; done.transcript.items.len(), 0);
-    }
-    Ok(())
-}
-
-// Each read of a script fails in turn: what was answered stands, and then the fault.
-#[test]
-fn each_read_fails_in_turn(rt: HostRuntime) -> Result<(), Fail> {
-    for (read, text) in [
-        (1, "! read\n"),
-        (2, "A began 0\n! read\n"),
-        (3, "A began 0\n! read\n"),
-        (4, "A began 0\nA done\n! read\n"),
-    ] {
-        let script = "A begin\nA put 1 0 0 0 0 x\n";
-        let Ran { done, sink } = run(rt.alloc(), &["play"], script, 9, &[read], &[])?;
-        assert_eq!(rt; done.status, 2);
-        assert_eq!(rt; sink.bytes(), text.as_bytes());
-    }
-    Ok(())
-}
-
-// Each write fails in turn: what is written before it stands, and nothing after it.
-#[test]
-fn each_write_fails_in_turn(rt: HostRuntime) -> Result<(), Fail> {
-    for (write, text) in [
-        (1, ""),
-        (2, "A began 0\n"),
-        (3, "A began 0\nA done\n"),
-        (
-            4,
-            "A began 0\nA done\nA found 1\nA rec 1 -1073741824 -1073741824 -1073741824 -1073741824 corner\n",
-        ),
-    ] {
-        let Ran { done, sink } = run(rt.alloc(), &["play"], CORNER, 7, &[], &[write])?;
-        assert_eq!(rt; done.status, 3);
-        assert_eq!(rt; sink.bytes(), text.as_bytes());
-    }
-    let Ran { done, sink } = run(rt.alloc(), &[], CORNER, 7, &[], &[1])?;
-    assert_eq!(rt; done.status, 1);
-    assert_eq!(rt; sink.bytes().len(), 0);
-    Ok(())
 }
