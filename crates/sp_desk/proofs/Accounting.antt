@@ -41,7 +41,7 @@ use Rattle.sp_desk.proofs.Reporting.{Agrees, other_told, commits_told}
 use Rattle.sp_desk.proofs.Handling.{proceeds_told, refused_told, refused_quiet, starts_idle, started_told, started_own, started_other}
 
 -- the session has no transaction that is idle
-abbrev IsBusy : List Session → ℕ → Type 0
+abbrev pub IsBusy : List Session → ℕ → Type 0
 IsBusy xs t = (y : Session) → session_at t xs ≡ Some y → y.stage ≡ Idle → ⊥
 
 -- an idle session waits nowhere
@@ -71,7 +71,7 @@ busy_all m w wait = each_by (λ x. IsBusy m.sessions x.session) w (λ i x found 
     differ : true ≡ false → ⊥
     differ h = cc
 
-clean_sessions : (m : Kernel) (answer : Answer) (n : Kernel) → Answers m Clean answer n → n.sessions ≡ m.sessions
+pub clean_sessions : (m : Kernel) (answer : Answer) (n : Kernel) → Answers m Clean answer n → n.sessions ≡ m.sessions
 clean_sessions m _ _ (Answers.IsStepped _ _ (Stepped.IsTurnedAway answer turned)) = refl
 clean_sessions m _ _ (Answers.IsStepped _ _ (Stepped.IsDone _ _ free (StepDoes.CleansNothing none))) = refl
 clean_sessions m _ _ (Answers.IsStepped _ _ (Stepped.IsDone _ _ free (StepDoes.CleanIsFull number rest after dead removed unused passes))) = refl
@@ -127,11 +127,11 @@ cleans_told before l known k _ _ (Cleans.Goes {count} {m} c answer n h free) a a
     )
 
 -- the operation that waits is the one that its session started last
-abbrev IsKnown : Ledger → Stalled → Type 0
+abbrev pub IsKnown : Ledger → Stalled → Type 0
 IsKnown known x = last_started x.session known.started ≡ Some x.op
 
 -- After some items: what was told agrees with the kernel, no commit waits for its place, and the operations that wait are known. Where a line is to be heard, their sessions are not idle.
-record Stands (before : List Commit) (l : Ledger) (m : Kernel) (w : List Stalled) (turn : Turn) : Type 0 where
+pub record Stands (before : List Commit) (l : Ledger) (m : Kernel) (w : List Stalled) (turn : Turn) : Type 0 where
   pub known : Ledger
   pub agrees : Agrees before l known m []
   pub alone : batch m ≡ []
@@ -213,11 +213,11 @@ module _ (before : List Commit) (l : Ledger) (m : Kernel) (w : List Stalled) (st
     busy = λ e. absurd (not_hearing e);
   }
 
-one_more : (items : List Item) (item : Item) → ledger (items ++ item ∷ []) ≡ note (ledger items) item
+pub one_more : (items : List Item) (item : Item) → ledger (items ++ item ∷ []) ≡ note (ledger items) item
 one_more items item = fold-append note (record { pending = []; done = []; started = [] }) items (item ∷ [])
 
 -- item by item
-plays_stand : (k : Kernel) → Sound k → k.sessions ≡ [] → (items : List Item) (m : Kernel) (w : List Stalled) (turn : Turn) → Plays k [] Turn.Hearing items m w turn → Stands k.commits (ledger items) m w turn
+pub plays_stand : (k : Kernel) → Sound k → k.sessions ≡ [] → (items : List Item) (m : Kernel) (w : List Stalled) (turn : Turn) → Plays k [] Turn.Hearing items m w turn → Stands k.commits (ledger items) m w turn
 plays_stand k sound none _ _ _ _ Plays.Stays =
     let t = nothing_told k none in
     record {

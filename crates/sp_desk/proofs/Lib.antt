@@ -14,8 +14,8 @@ mod Going
 mod Ending
 mod Running
 mod Leaving
-mod Batches
-mod Each
-mod Reporting
-mod Handling
-mod Accounting
+pub mod Batches
+pub mod Each
+pub mod Reporting
+pub mod Handling
+pub mod Accounting

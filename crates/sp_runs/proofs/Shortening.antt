@@ -80,6 +80,7 @@ pub cut_from : (language : Language) (shape : Shape) (before end : End) (items :
 cut_from language shape before end items audit cut (inl h) = inl (record {
   start = h.start;
   opened = h.opened;
+  sound = h.sound;
   last = h.last;
   runs = cut_runs language h.start items h.last before end cut h.runs.answers h.runs.told h.runs.closed;
   audited = h.audited;

@@ -16,6 +16,7 @@ use Rattle.sp_text.specs.declared.types.End.TheVariants.{Foreign, Damaged, DiskF
 use Rattle.sp_audit.specs.History.{History}
 use Rattle.sp_model.specs.State.{Kernel}
 use Rattle.sp_model.specs.Opening.{IsOpened}
+use Rattle.sp_model.specs.Soundness.{Sound}
 use Rattle.sp_durable.specs.Recovered.{HoldsOrMore}
 use Rattle.sp_store.specs.Files.{main_of, alt_of}
 use Rattle.sp_runs.specs.declared.language.Language.{Language}
@@ -23,10 +24,11 @@ use Rattle.sp_runs.specs.Scripts.{IsLeftIn}
 use Rattle.sp_runs.specs.Running.{IsAuditOf, Runs, IsNotRun}
 use Rattle.sp_runs.specs.Holding.{PairIsKept}
 
--- A run from the kernel that opening gives over these records.
+-- A run from the kernel that opening gives over these records, which is sound.
 pub record RunsFrom (language : Language) (shape : Shape) (records : List Record) (end : End) (items : List Item) (audit : History) : Type 0 where
   pub start : Kernel
   pub opened : IsOpened shape records start
+  pub sound : Sound start
   pub last : Kernel
   pub runs : Runs language start end items last
   pub audited : IsAuditOf last audit
@@ -48,12 +50,13 @@ pub record IsKept {D : Type 0} (reads : D → List ℕ) (moment : D → ℕ) (im
   pub now : (file : List ℕ) → images current (moment current) file → HoldsOrMore n file
   pub pair : PairIsKept reads moment images k n main alt is_alt first current other
 
--- A run from the kernel that opening gives over the records that two files hold, which are kept while it runs.
+-- A run from the kernel that opening gives over the records that two files hold, which is sound; the records are kept while it runs.
 pub record RunsOver {D : Type 0} (reads : D → List ℕ) (moment : D → ℕ) (images : D → ℕ → List ℕ → Type 0) (language : Language) (shape : Shape) (main alt : List ℕ) (end : End) (items : List Item) (audit : History) (now_main now_alt : D) : Type 0 where
   pub found : Recovered
   pub recovered : RecoversPair main alt (Holds found)
   pub start : Kernel
   pub opened : IsOpened shape found.records start
+  pub sound : Sound start
   pub last : Kernel
   pub runs : Runs language start end items last
   pub audited : IsAuditOf last audit

@@ -55,6 +55,7 @@ pub fn run_in_memory<S: Source, K: Sink>(
     let Ok(mut kernel) = start_in_memory(alloc, shape) else {
         return unstarted(alloc, sink, End::Memory);
     };
+    let _begins = kernel.audit();
     let transcript = run(alloc, language, audited, &mut kernel, source, sink);
     let (audit, _) = kernel.finish();
     let _serial = audit.commits();

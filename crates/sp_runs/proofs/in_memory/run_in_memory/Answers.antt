@@ -14,6 +14,7 @@ returns-clause-told g c =
     from_told c.args.language c.args.shape _ c.run-transcript.result.end c.run-transcript.result.items c.finish-audit.result.0 (record {
       start = kernel.kernel;
       opened = c.in-Ok.ensures;
+      sound = c.audit-begins.ensures.sound;
       last = c.run-transcript.new.kernel.kernel;
       runs = c.run-transcript.ensures.runs c.in-Ok.ensures.sessions;
       audited = record { base = c.finish-audit.ensures.base; commits = c.finish-audit.ensures.commits; ended = c.finish-audit.ensures.ended };

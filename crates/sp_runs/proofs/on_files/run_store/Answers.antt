@@ -21,6 +21,7 @@ returns-clause-over g c = λ told main alt shape opened beside opening.
       recovered = opened.recovered;
       start = start.kernel;
       opened = opened.opened;
+      sound = c.audit-begins.ensures.sound;
       last = last.kernel;
       runs = c.run-transcript.ensures.runs opened.opened.sessions;
       audited = record { base = c.finish-audit.ensures.base; commits = c.finish-audit.ensures.commits; ended = c.finish-audit.ensures.ended };
