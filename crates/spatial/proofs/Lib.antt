@@ -1,2 +1,4 @@
 mod Asked
 mod Silence
+mod Completeness
+mod Conduct

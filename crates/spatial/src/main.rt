@@ -8,7 +8,9 @@ mod offline;
 
 use offline::offline;
 use sp_disk::FileShelf;
-use sp_io::{StdSink, StdSource, Words};
+use sp_io::{Sink, StdSink, StdSource, Words};
+use sp_runs::write_last;
+use sp_text::End;
 use std::env;
 use std::io::ErrorKind;
 use std::process::ExitCode;
@@ -16,23 +18,29 @@ use std::process::ExitCode;
 // The status where there is no memory for the words.
 const NO_MEMORY: u8 = 6;
 
+// Nothing is done but to say so.
+fn lack_memory<K: Sink>(sink: &mut K) -> ExitCode {
+    write_last(sink, End::Memory);
+    ExitCode::from(NO_MEMORY)
+}
+
 // The words after the program's name go to `offline`, and its status is the program's. Words that are no
 // text are no command, so none are handed on.
 fn main(rt: HostRuntime) -> ExitCode {
+    let mut sink = StdSink::new(rt.stdout());
     let mut words = Words::new(rt.alloc());
     match env::args(&rt) {
         Ok(args) => {
             for word in args.skip(1) {
                 if words.push(word.as_str()).is_err() {
-                    return ExitCode::from(NO_MEMORY);
+                    return lack_memory(&mut sink);
                 }
             }
         }
-        Err(error) if error.kind() == ErrorKind::OutOfMemory => return ExitCode::from(NO_MEMORY),
+        Err(error) if error.kind() == ErrorKind::OutOfMemory => return lack_memory(&mut sink),
         Err(_) => {}
     }
     let mut source = StdSource::new(rt.stdin());
-    let mut sink = StdSink::new(rt.stdout());
     let mut shelf = FileShelf::new(rt, rt.alloc());
     let done = offline(rt.alloc(), &words, &mut source, &mut sink, &mut shelf);
     ExitCode::from(done.status)

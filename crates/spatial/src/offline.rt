@@ -11,7 +11,7 @@ ghost use Rattle.sp_lines.specs.Reading.{ReadsTo};
 ghost use Rattle.sp_command.specs.Bounds.{IsBounded};
 ghost use Rattle.sp_command.specs.Grammar.{Says};
 ghost use Rattle.sp_command.specs.declared.task.Run.{Run as AnyRun};
-ghost use Rattle.sp_command.specs.declared.task.Task.TheVariants.{Dump, Check, Compact, Make, Stress};
+ghost use Rattle.sp_command.specs.declared.task.Task.TheVariants.{Play, Dump, Check, Compact, Make, Stress};
 ghost use Rattle.sp_report.specs.Report.{check_text, dump_text};
 ghost use Rattle.sp_files.specs.Compacting.{Compacts, Survives};
 ghost use Rattle.sp_files.specs.Fetching.{alt_name, names_of, AsksFirst};
@@ -21,11 +21,14 @@ ghost use Rattle.sp_runs.specs.Opening.{RunsFrom, RunsInMemory, RunsOver, Refuse
 ghost use Rattle.sp_runs.specs.Running.{IsNotRun, IsTold};
 ghost use Rattle.sp_runs.specs.Scripts.{form_of};
 ghost use Rattle.sp_runs.specs.Writing.{audit_line, last_line, Writes, WritesOrFails};
+ghost use Rattle.sp_desk.specs.Hearing.{script_sessions};
+ghost use Rattle.sp_conduct.specs.Transcript.{AreOf, IsConducted, IsClosed, IsAsPlain};
 ghost use Rattle.sp_script.specs.Script.{script_text};
 ghost use Rattle.sp_script.specs.Summary.{summary_text};
 ghost use Rattle.sp_stress.specs.Stressing.{HearsScript, WritesSummary};
 ghost use Rattle.sp_stress.specs.Summing.{summary_of};
 ghost use Rattle.spatial.specs.Commands.{status_of, script_task, IsOnFiles, Finishes, Makes, SaysNothing, NamesJournal};
+ghost use Rattle.spatial.specs.Completeness.{IsShort, IsAccepted, EndsWell};
 
 use crate::done::{Done, ended, finished, ran, ran_on_files};
 use crate::making::make;
@@ -83,6 +86,16 @@ pub fn offline<S: Source, K: Sink, H: Shelf>(
     ensures told { IsTold result.transcript.end result.transcript.items result.audit }
     // They are those of a plain list of records that runs them one at a time, in order of place.
     ensures serial { Serial result.audit.base result.audit.commits }
+    // `play`: every answer fits what was told before it; at the end of the input every session was told of the end of its transaction; and where all
+    // answers are one session's, each is that of a plain store.
+    ensures fits { (run : AnyRun) → Says words.now (Play run) → IsConducted result.audit.base result.transcript.items }
+    ensures closed { (run : AnyRun) → Says words.now (Play run) → result.transcript.end ≡ End.Input → IsClosed result.transcript.items script_sessions }
+    ensures alone { (run : AnyRun) (s : ℕ) → Says words.now (Play run) → AreOf s result.transcript.items → IsAsPlain result.audit.base result.transcript.items }
+    // `play` and `drill` over a short input and a whole journal: where no count of faults rose, all was read and written, or there was no memory.
+    ensures complete { (language : AnyLanguage) (run : AnyRun) → Says words.now (script_task language run) → IsShort (S.left source.old) → IsAccepted run.journal (H.tells shelf.old) (H.holds shelf.old) → (Rose (S.read_faults source.old) (S.read_faults source.new) → ⊥) → (Rose (K.write_faults sink.old) (K.write_faults sink.new) → ⊥) → (MatchOption result.disks (Rose (H.faults shelf.old) (H.faults shelf.new)) (λ p. Rose 0 (H.Disk.faults p.main) ⊎ Rose 0 (H.Disk.faults p.alt)) → ⊥) → EndsWell result.status }
+    // The same of `dump` and `check` over a whole journal, and of `make`.
+    ensures complete_reports { (name : List ℕ) → Says words.now (Dump name) ⊎ Says words.now (Check name) → IsAccepted (Some name) (H.tells shelf.old) (H.holds shelf.old) → (Rose (K.write_faults sink.old) (K.write_faults sink.new) → ⊥) → (MatchOption result.disks (Rose (H.faults shelf.old) (H.faults shelf.new)) (λ p. Rose 0 (H.Disk.faults p.main) ⊎ Rose 0 (H.Disk.faults p.alt)) → ⊥) → EndsWell result.status }
+    ensures complete_make { (seed count : ℕ) → Says words.now (Make seed count) → (Rose (K.write_faults sink.old) (K.write_faults sink.new) → ⊥) → EndsWell result.status }
     // `stress`: the generated script is played in memory, and its summary written.
     ensures stress_status { (seed count : ℕ) (shape : AnyShape) → Says words.now (Stress seed count shape) → result.status ≡ status_of result.transcript.end }
     ensures stress_heard { (seed count : ℕ) (shape : AnyShape) → Says words.now (Stress seed count shape) → HearsScript result.transcript.end (script_text seed count) result.transcript.items }
