@@ -2,13 +2,13 @@
 ghost use Rattle.std.specs.Prelude.{◌≡◌, ◌++◌, ◌∷◌, [], if◌then◌else◌, is_ok, decimal};
 ghost use Rattle.std.specs.Fmt.{signed_decimal};
 
+use itoa::Buffer;
 use std::alloc::{AllocError, Global};
 use std::marker::Model;
 
 /// A text under construction, byte by byte. Where a call finds no memory the text is as it was.
 #[derive(Drop)]
 pub struct Text {
-    alloc: Global,
     bytes: Vec<u8>,
 }
 
@@ -26,7 +26,6 @@ impl Text {
         ensures { result ≡ [] }
     {
         Text {
-            alloc,
             bytes: Vec::new(alloc),
         }
     }
@@ -71,15 +70,17 @@ impl Text {
     pub fn push_number(&mut self, number: u64) -> Result<(), AllocError>
         ensures { self.new ≡ (if is_ok result then self.old ++ decimal number else self.old) }
     {
-        let digits = number.to_string(self.alloc)?;
-        self.bytes.extend_from_slice(digits.as_bytes())
+        let mut buffer = Buffer::new();
+        self.bytes
+            .extend_from_slice(buffer.format(number).as_bytes())
     }
 
     /// Adds the number in decimal digits, after a `-` where it is negative.
     pub fn push_signed(&mut self, number: i32) -> Result<(), AllocError>
         ensures { self.new ≡ (if is_ok result then self.old ++ signed_decimal number else self.old) }
     {
-        let digits = number.to_string(self.alloc)?;
-        self.bytes.extend_from_slice(digits.as_bytes())
+        let mut buffer = Buffer::new();
+        self.bytes
+            .extend_from_slice(buffer.format(number).as_bytes())
     }
 }

@@ -3,6 +3,7 @@ ghost use Rattle.std.specs.Prelude.{◌≡◌, IfOk, IsErrOf, true, false};
 ghost use Rattle.sp_rect.specs.Value.{is_printing, is_value};
 ghost use Rattle.std.specs.List.{list_all};
 
+use smallvec::SmallVec;
 use sp_list::Duplicate;
 use std::alloc::{AllocError, Global};
 use std::marker::Model;
@@ -16,10 +17,13 @@ pub enum ValueError {
     Memory,
 }
 
+// How many bytes stand in the value itself: most values are short, and take no memory of their own.
+const INLINE: usize = 24;
+
 /// A record's text: 1 to 64 bytes, each a printing ASCII character and no space (0x21 to 0x7E).
 #[derive(Drop)]
 pub struct Value {
-    bytes: Vec<u8>,
+    bytes: SmallVec<u8, INLINE>,
 }
 
 impl Model for Value {
@@ -44,7 +48,7 @@ impl Value {
         if !is_value(bytes) {
             return Err(ValueError::Bad);
         }
-        match Vec::from_slice(alloc, bytes) {
+        match SmallVec::from_slice(alloc, bytes) {
             Ok(bytes) => Ok(Value { bytes }),
             Err(_) => Err(ValueError::Memory),
         }
@@ -61,7 +65,7 @@ impl Value {
 
 impl Duplicate for Value {
     fn copy(&self, alloc: Global) -> Result<Value, AllocError> {
-        let bytes = Vec::from_slice(alloc, self.bytes.as_slice())?;
+        let bytes = SmallVec::from_slice(alloc, self.bytes.as_slice())?;
         Ok(Value { bytes })
     }
 }
