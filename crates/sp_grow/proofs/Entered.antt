@@ -1,5 +1,5 @@
 -- An entry that is inserted into a tree without changes.
-use Rattle.std.proofs.Common.{◌≡◌, ℕ, ◌+◌, ◌^◌, ◌<◌, Bool, true, false, List, [], Some, None, refl, sym, ◌∙◌, subst}
+use Rattle.std.proofs.Common.{◌≡◌, ◌+◌, ◌^◌, ◌<◌, true, false, None, refl, sym, ◌∙◌, subst}
 use Rattle.sp_rect.specs.Plane.{IsRectangle}
 use Rattle.sp_node.specs.declared.node.Entry.{Entry as EntryOf}
 use Rattle.sp_node.specs.declared.plan.Plan.{Plan}

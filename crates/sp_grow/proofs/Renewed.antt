@@ -1,16 +1,15 @@
 -- Parts that are put among others in place of those of the same numbers.
-use Rattle.std.proofs.Common.{◌≡◌, ℕ, zero, suc, ◌+◌, ◌<◌, ◌≤◌, Bool, true, false, cond, ◌||◌, List, [], ◌∷◌, ◌++◌, length, take, drop, Option, Some, None, refl, sym, ap, ◌∙◌, subst, arith, get_or}
+use Rattle.std.proofs.Common.{◌≡◌, ℕ, zero, suc, ◌<◌, ◌≤◌, Bool, true, false, cond, List, [], ◌∷◌, ◌++◌, length, take, drop, Option, Some, None, refl, sym, ap, ◌∙◌, arith}
 use Rattle.std.proofs.Math.ListN.{set}
 use Rattle.std.specs.Prelude.{nat_eq, ltb, if◌then◌else◌}
 use Rattle.std.specs.List.{AllByRecursion}
 use Rattle.std.proofs.lemmas.Bool.Decides.{nat_tests}
 use Rattle.sp_node.specs.declared.node.Node.{Node}
 use Rattle.sp_node.specs.declared.plan.Part.{Part}
-use Rattle.sp_node.specs.declared.plan.Part.TheVariants.{Gone}
 use Rattle.sp_node.specs.Look.{look}
 use Rattle.sp_node.specs.Plan.{number_of, content, with_parts, AreOrdered}
 use Rattle.sp_node.proofs.Lists.{all_imply}
-use Rattle.sp_node.proofs.Adopt.{part_at, look_parts, listed}
+use Rattle.sp_node.proofs.Adopt.{part_at, look_parts}
 use Rattle.sp_grow.specs.Overlay.{part_of, number_in, IsAt, renewed, all_renewed}
 
 -- what the first part of a number leaves there

@@ -17,7 +17,7 @@ use Rattle.sp_node.specs.Among.{Among}
 use Rattle.sp_node.specs.Index.{leaf_with}
 use Rattle.sp_node.specs.Nested.{Body, Branch, entries, AreSound, IsRootSize}
 use Rattle.sp_node.specs.Look.{look, IsAscending}
-use Rattle.sp_node.specs.Plan.{with_parts, put_part, planned, IsMadeOf, SameEntries}
+use Rattle.sp_node.specs.Plan.{with_parts, put_part, IsMadeOf, SameEntries}
 use Rattle.sp_node.specs.Standing.{HasNoEntry, IsLeafOf}
 use Rattle.sp_node.specs.Table.{Table, body_at, Stands, IsInner, children_in, level_of, entries_of, IsValid, IsValidAt}
 use Rattle.sp_node.proofs.Lists.{all_imply}
@@ -26,7 +26,7 @@ use Rattle.sp_node.proofs.Adopt.{listed}
 use Rattle.sp_node.proofs.Level.{level_is, valid_at}
 use Rattle.sp_node.proofs.Standing.{leaf_stands}
 use Rattle.sp_grow.specs.Insertion.{Outcome, one, two}
-use Rattle.sp_grow.specs.Grown.{IsGrown, IsDone}
+use Rattle.sp_grow.specs.Grown.{IsDone}
 use Rattle.sp_grow.specs.Below.{numbers, AreChanges, IsGrownAt, IsRaisedTo, branch_at, outcome_at, EachStands}
 use Rattle.sp_grow.specs.declared.left.Left.{Left}
 use Rattle.sp_grow.specs.declared.left.Left.TheVariants.{One, Two}

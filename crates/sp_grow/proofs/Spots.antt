@@ -8,7 +8,6 @@ use Rattle.std.proofs.lemmas.Map.Steps.{length-le_from_distinct_below}
 use Rattle.std.proofs.lemmas.Map.Keys.{IsDistinct-head, IsDistinct-tail, IsDistinct-cons, IsDistinct-from_apart}
 use Rattle.sp_rect.specs.Plane.{whole}
 use Rattle.sp_node.specs.declared.node.Child.{Child}
-use Rattle.sp_node.specs.declared.node.Entry.{Entry}
 use Rattle.sp_node.specs.declared.node.Node.{Node}
 use Rattle.sp_node.specs.declared.node.Node.TheVariants.{Inner}
 use Rattle.sp_node.specs.declared.node.Shape.{Shape}

@@ -1,5 +1,5 @@
 -- A tree as its root, and the insertion of a member of any level into it.
-use Rattle.std.specs.Prelude.{◌≡◌, ℕ, suc, ◌+◌, List, [], ◌∷◌}
+use Rattle.std.specs.Prelude.{◌≡◌, ℕ, suc, ◌+◌, [], ◌∷◌}
 use Rattle.sp_node.specs.declared.node.Shape.{Shape}
 use Rattle.sp_node.specs.Nested.{Member, Body}
 use Rattle.sp_grow.specs.Insertion.{Outcome, one, two, Grows}

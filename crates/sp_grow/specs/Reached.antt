@@ -8,7 +8,7 @@ use Rattle.sp_node.specs.declared.node.Shape.{Shape}
 use Rattle.sp_node.specs.declared.plan.Part.{Part}
 use Rattle.sp_node.specs.declared.plan.Plan.{Plan}
 use Rattle.sp_node.specs.Among.{Among}
-use Rattle.sp_node.specs.Nested.{Member, Body, rects, entries, AreSound}
+use Rattle.sp_node.specs.Nested.{Member, rects, entries, AreSound}
 use Rattle.sp_node.specs.Look.{look}
 use Rattle.sp_node.specs.Plan.{with_parts, number_of}
 use Rattle.sp_node.specs.Table.{Table, body_at, Stands}

@@ -47,8 +47,8 @@ impl Left {
 }
 
 // Puts more children at the end.
-fn extend(items: &mut Children, more: &[Child]) -> Result<(), AllocError>
-    ensures { IfOk result (λ done. items.new ≡ items.old ++ more.now) }
+fn extend(items: &mut Vec<Child>, more: &[Child]) -> Result<(), AllocError>
+    ensures { IfOk result (λ done. items.new.items ≡ items.old.items ++ more.now) }
 {
     for child in more {
         items.push(*child)?;
@@ -67,7 +67,7 @@ pub(crate) fn with_left(
     requires { at < length children.now }
     ensures { IfOk result (λ items. items ≡ put_left (take at children.now) left (drop (at + 1) children.now)) }
 {
-    let mut items = Children::new(alloc);
+    let mut items = Vec::with_capacity(alloc, children.len().saturating_add(1))?;
     extend(&mut items, &children[..at])?;
     let back = &children[at + 1..];
     match left {
@@ -81,7 +81,7 @@ pub(crate) fn with_left(
             items.push(b)?;
         }
     }
-    Ok(items)
+    Ok(Children::from_vec(items))
 }
 
 // A node that is not too large, under its number.

@@ -29,11 +29,19 @@ fn push_children(rects: &mut Vec<Rect>, children: &[Child]) -> Result<(), AllocE
     Ok(())
 }
 
+// How many members the node has.
+fn count_members(node: &Node) -> usize {
+    match node {
+        Node::Leaf(entries) => entries.len(),
+        Node::Inner(children) => children.len(),
+    }
+}
+
 /// The rectangles of the node's members.
 pub(crate) fn rects_of(alloc: Global, node: &Node) -> Result<Vec<Rect>, AllocError>
     ensures { IfOk result (λ rects. rects.items ≡ rects_in node.now) }
 {
-    let mut rects = Vec::new(alloc);
+    let mut rects = Vec::with_capacity(alloc, count_members(node))?;
     match node {
         Node::Leaf(entries) => push_entries(&mut rects, entries.as_slice())?,
         Node::Inner(children) => push_children(&mut rects, children.as_slice())?,
@@ -82,13 +90,13 @@ pub(crate) fn pick<T: Duplicate>(
 ) -> Result<Sequence<T>, AllocError>
     ensures { IfOk result (λ picked. picked ≡ pick members.now positions.now) }
 {
-    let mut picked = Sequence::new(alloc);
+    let mut picked = Vec::with_capacity(alloc, positions.len())?;
     for position in positions {
         if let Some(member) = members.get(*position as usize) {
             picked.push(member.copy(alloc)?)?;
         }
     }
-    Ok(picked)
+    Ok(Sequence::from_vec(picked))
 }
 
 /// A node with copies of the members at these positions.
@@ -102,6 +110,17 @@ pub(crate) fn pick_node(alloc: Global, node: &Node, positions: &Numbers) -> Resu
     }
 }
 
+// Copies of the members, with room for one more.
+fn with_room<T: Duplicate>(alloc: Global, members: &[T]) -> Result<Vec<T>, AllocError>
+    ensures { IfOk result (λ copied. copied.items ≡ members.now) }
+{
+    let mut copied = Vec::with_capacity(alloc, members.len().saturating_add(1))?;
+    for member in members {
+        copied.push(member.copy(alloc)?)?;
+    }
+    Ok(copied)
+}
+
 /// A copy of the node with the member at its end.
 pub(crate) fn with_member(alloc: Global, node: &Node, member: &Member) -> Result<Node, AllocError>
     requires { Belongs node.now member.now }
@@ -109,14 +128,14 @@ pub(crate) fn with_member(alloc: Global, node: &Node, member: &Member) -> Result
 {
     match (node, member) {
         (Node::Leaf(entries), Member::Entry(entry)) => {
-            let mut items = entries.copy(alloc)?;
+            let mut items = with_room(alloc, entries.as_slice())?;
             items.push(entry.copy(alloc)?)?;
-            Ok(Node::Leaf(items))
+            Ok(Node::Leaf(Sequence::from_vec(items)))
         }
         (Node::Inner(children), Member::Child(child)) => {
-            let mut items = children.copy(alloc)?;
+            let mut items = with_room(alloc, children.as_slice())?;
             items.push(*child)?;
-            Ok(Node::Inner(items))
+            Ok(Node::Inner(Sequence::from_vec(items)))
         }
         _ => unreachable!(),
     }

@@ -1,19 +1,17 @@
-use Rattle.std.proofs.Common.{◌≡◌, ◌<◌, ◌+◌, ◌-◌, ◌∷◌, [], ℕ, Some, length, take, drop, List, ◌++◌, map, get_or, sym, ap, ◌∙◌, subst, arith}
+use Rattle.std.proofs.Common.{◌≡◌, ◌<◌, ◌+◌, ◌-◌, ℕ, Some, length, take, drop, List, map, get_or, sym, ap, ◌∙◌, subst, arith}
 use Rattle.std.proofs.lemmas.Result.{IfOk-weaker}
 use Rattle.sp_rect.specs.Plane.{Rectangle, whole}
 use Rattle.sp_node.specs.declared.node.Child.{Child}
-use Rattle.sp_node.specs.declared.node.Node.{Node}
-use Rattle.sp_node.specs.declared.node.Node.TheVariants.{Leaf, Inner}
+use Rattle.sp_node.specs.declared.node.Node.TheVariants.{Inner}
 use Rattle.sp_node.specs.declared.node.Shape.{Shape}
 use Rattle.sp_node.specs.Look.{look}
 use Rattle.sp_node.specs.Table.{Table}
 use Rattle.sp_grow.specs.Overlay.{table_of}
-use Rattle.sp_grow.specs.Members.{rect_of_member, node_with}
+use Rattle.sp_grow.specs.Members.{node_with}
 use Rattle.sp_grow.specs.declared.left.Step.{Step}
-use Rattle.sp_grow.specs.declared.left.Draft.{Draft}
 use Rattle.sp_grow.specs.Chosen.{IsChosen}
 use Rattle.sp_grow.specs.Below.{Aims, IsStepped, IsGrownAt, IsSettled, no_child, no_draft}
-use Rattle.sp_grow.proofs.Turns.{has_child, home_belongs, grown_home, Down, down, grown_inner}
+use Rattle.sp_grow.proofs.Turns.{has_child, grown_home, Down, down, grown_inner}
 use Rattle.sp_grow.proofs.grown.+grow_below.Goals as goal
 
 pub choose_child-at-requires : goal.choose_child-at-requires

@@ -1,7 +1,6 @@
-use Rattle.std.proofs.Common.{◌≡◌, ℕ, ◌+◌, ◌<◌, subst, sym, arith}
+use Rattle.std.proofs.Common.{◌≡◌, ℕ, subst, arith}
 use Rattle.std.proofs.lemmas.Result.{IfOk-weaker}
 use Rattle.sp_node.specs.declared.plan.Plan.{Plan}
-use Rattle.sp_node.specs.Table.{Table}
 use Rattle.sp_grow.specs.Overlay.{Overlay, table_of}
 use Rattle.sp_grow.specs.Below.{Aims, IsGrownAt, IsInsertion, IsRaised}
 use Rattle.sp_grow.specs.declared.member.Member.{Member}

@@ -1,4 +1,4 @@
-use Rattle.std.proofs.Common.{◌≡◌, ℕ}
+use Rattle.std.proofs.Common.{◌≡◌}
 use Rattle.std.proofs.lemmas.Result.{IfOk-weaker}
 use Rattle.sp_node.specs.declared.node.Entry.{Entry as EntryOf}
 use Rattle.sp_node.specs.declared.plan.Plan.{Plan}

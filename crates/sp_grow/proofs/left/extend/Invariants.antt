@@ -2,4 +2,4 @@ use Rattle.std.proofs.Common.{◌≡◌, ◌++◌, take}
 use Rattle.sp_grow.proofs.left.extend.Given as goal
 
 abbrev pub invariant-loop-child : goal.invariant-loop-child
-invariant-loop-child l = l.items ≡ l.fn.items ++ take l.child-index l.more
+invariant-loop-child l = l.items.items ≡ l.fn.items.items ++ take l.child-index l.more

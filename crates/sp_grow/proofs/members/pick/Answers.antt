@@ -7,7 +7,7 @@ pub loop-position-preserved : goal.loop-position-preserved
 loop-position-preserved g c =
     elim c.match-get.branch [
       | in-Some+in_ok-copy+in_ok-push w ↦ let e = w.in-Some.ensures.lookup in
-          took c.args.members.now c.args.positions.now c.args.positions.now refl c.loop-position.position-index c.loop-position-test.true c.loop-position.picked c.match-get.picked c.loop-position.invariant w.in-Some.member.now (w.picked-is ∙ w.in_ok-push.ensures ∙ ap (λ (y : g.row.T.Denot). c.loop-position.picked ++ y ∷ []) w.in_ok-copy.ensures) e.3.0 e.1
+          took c.args.members.now c.args.positions.now c.args.positions.now refl c.loop-position.position-index c.loop-position-test.true c.loop-position.picked.items c.match-get.picked.items c.loop-position.invariant w.in-Some.member.now (ap (λ v. v.items) w.picked-is ∙ w.in_ok-push.ensures.items ∙ ap (λ (y : g.row.T.Denot). c.loop-position.picked.items ++ y ∷ []) w.in_ok-copy.ensures) e.3.0 e.1
       | in_default w ↦ let e = w.in_default.ensures.lookup in
-          passed c.args.members.now c.args.positions.now c.args.positions.now refl c.loop-position.position-index c.loop-position-test.true c.loop-position.picked c.match-get.picked c.loop-position.invariant w.picked-is e.3
+          passed c.args.members.now c.args.positions.now c.args.positions.now refl c.loop-position.position-index c.loop-position-test.true c.loop-position.picked.items c.match-get.picked.items c.loop-position.invariant (ap (λ v. v.items) w.picked-is) e.3
     ]

@@ -1,6 +1,5 @@
-use Rattle.std.proofs.Common.{◌≡◌, List, subst, sym, ap, ◌∙◌, arith, ℕ, ◌<◌, ◌≤◌, length}
+use Rattle.std.proofs.Common.{List, subst, sym, ap, ◌∙◌, arith, ℕ, ◌<◌, ◌≤◌, length}
 use Rattle.sp_node.specs.declared.plan.Part.{Part}
-use Rattle.sp_node.specs.Plan.{number_of}
 use Rattle.sp_grow.specs.Overlay.{number_in, IsAt}
 use Rattle.sp_grow.proofs.Renewed.{renewed_at, renewed_between}
 use Rattle.sp_grow.proofs.planned.renew.Goals as goal

@@ -1,5 +1,4 @@
-use Rattle.std.proofs.Common.{◌≡◌, Option, Some, None, sym, ap, ◌∙◌, List}
-use Rattle.sp_node.specs.declared.node.Node.{Node}
+use Rattle.std.proofs.Common.{Some, None, sym, ap, ◌∙◌, List}
 use Rattle.sp_node.specs.declared.plan.Part.{Part}
 use Rattle.sp_node.specs.Look.{look}
 use Rattle.sp_node.specs.Plan.{content}

@@ -1,5 +1,4 @@
-use Rattle.std.proofs.Common.{sym, subst, is_ok, List}
-use Rattle.sp_node.specs.declared.plan.Part.{Part}
+use Rattle.std.proofs.Common.{sym, subst, is_ok}
 use Rattle.sp_node.specs.Plan.{AreOrdered}
 use Rattle.sp_grow.proofs.Renewed.{ordered_after}
 use Rattle.sp_grow.proofs.planned.Planned.put.Goals as goal
