@@ -23,7 +23,9 @@ use Rattle.sp_files.specs.Fetching.{alt_name}
 use Rattle.sp_runs.specs.Running.{IsNotRun}
 use Rattle.sp_runs.specs.Opening.{RunsInMemory, RunsOver, RefusesFiles}
 use Rattle.sp_files.specs.declared.ending.FileEnd.TheVariants.{Written, WriteFault as WriteFailed, DiskFault as DiskFailed, Foreign as IsForeign, Damaged as IsDamaged, Worn, Memory as NoMemory}
+use Rattle.sp_files.specs.Compacting.{Compacts, IsWorn}
 use Rattle.sp_files.specs.Reporting.{Reports}
+use Rattle.sp_stress.specs.Stressing.{EndsStress}
 use Rattle.spatial.specs.Commands.{status_of, Finishes, Makes}
 use Rattle.spatial.specs.Completeness.{IsShort, IsAccepted, EndsWell}
 
@@ -136,6 +138,42 @@ module _ (text : Recovered → List ℕ) (main alt : List ℕ) (found : Recovere
     where
       differ : Holds found ≡ HoldsDamage offset → ⊥
       differ e = cc
+
+-- and a compaction of files whose generations are not used up
+module _ (main alt : List ℕ) (found : Recovered) (holds : RecoversPair main alt (Holds found)) (unworn : IsWorn main alt → ⊥) (tells : Bool) (told : IsTrue tells) (old new : Option (List ℕ)) (before now : ℕ) (none_written : Rose before now → ⊥) (D : Type 0) (no_disk : D → ⊥) where
+  module _ {P : Type 0} (main' alt' : P → List ℕ) where
+    -- it was refused, and the files were handed out
+    refused : (disks : Option P) (Q : P → Type 0) (status : ℕ) → status ≡ 5 → IfNone disks ((status ≡ 4) ⊎ (status ≡ 6)) → IfSome disks Q → ((p : P) → Q p → ⊥) → ⊥
+    refused None Q status is (inl h) q none = cc
+    refused None Q status is (inr h) q none = cc
+    refused (Some p) Q status is h q none = none p q
+
+    pub compacts_well : (disks : Option P) (status : ℕ) → (status ≡ 4 → D) → IfNone disks ((status ≡ 4) ⊎ (status ≡ 6)) → Finishes (λ end. IsTrue tells → IfSome disks (λ p. Compacts end main alt (main' p) (alt' p) old new)) status old new before now → EndsWell status
+    compacts_well disks status at_disk unfetched (Written, is, compacts, closes) = inl is
+    compacts_well disks status at_disk unfetched (NoMemory, is, compacts, closes) = inr is
+    compacts_well disks status at_disk unfetched (WriteFailed, is, compacts, closes) = absurd (none_written closes)
+    compacts_well disks status at_disk unfetched (DiskFailed, is, compacts, closes) = absurd (no_disk (at_disk is))
+    compacts_well disks status at_disk unfetched (Worn, is, compacts, closes) = absurd (refused disks _ status is unfetched (compacts told) (λ p h. unworn h.0))
+    compacts_well disks status at_disk unfetched (IsForeign, is, compacts, closes) = absurd (refused disks _ status is unfetched (compacts told) (λ p h. differ (one_pair main alt (Holds found) HoldsForeign holds h.0)))
+      where
+        differ : Holds found ≡ HoldsForeign → ⊥
+        differ e = cc
+    compacts_well disks status at_disk unfetched (IsDamaged offset, is, compacts, closes) = absurd (refused disks _ status is unfetched (compacts told) (λ p h. differ (one_pair main alt (Holds found) (HoldsDamage offset) holds h.0)))
+      where
+        differ : Holds found ≡ HoldsDamage offset → ⊥
+        differ e = cc
+
+-- and the playing of a generated script
+pub stresses_well : (status : ℕ) (end : End) (W : Type 0) → (W → ⊥) → (status ≡ 3 → W) → status ≡ status_of end → EndsStress end → EndsWell status
+stresses_well status Input W none_written at_write is ends = inl is
+stresses_well status Memory W none_written at_write is ends = inr is
+stresses_well status WriteFault W none_written at_write is ends = absurd (none_written (at_write is))
+stresses_well status Usage W none_written at_write is ends = absurd ends
+stresses_well status ReadFault W none_written at_write is ends = absurd ends
+stresses_well status DiskFault W none_written at_write is ends = absurd ends
+stresses_well status Foreign W none_written at_write is ends = absurd ends
+stresses_well status (Damaged offset) W none_written at_write is ends = absurd ends
+stresses_well status Long W none_written at_write is ends = absurd ends
 
 -- and so the making of a script
 pub makes_well : (status seed count : ℕ) (old new : Option (List ℕ)) (before now : ℕ) → (Rose before now → ⊥) → Makes status seed count old new before now → EndsWell status

@@ -13,7 +13,7 @@ ghost use Rattle.sp_command.specs.Grammar.{Says};
 ghost use Rattle.sp_command.specs.declared.task.Run.{Run as AnyRun};
 ghost use Rattle.sp_command.specs.declared.task.Task.TheVariants.{Play, Dump, Check, Compact, Make, Stress};
 ghost use Rattle.sp_report.specs.Report.{check_text, dump_text};
-ghost use Rattle.sp_files.specs.Compacting.{Compacts, Survives};
+ghost use Rattle.sp_files.specs.Compacting.{Compacts, IsWorn, Survives};
 ghost use Rattle.sp_files.specs.Fetching.{alt_name, names_of, AsksFirst};
 ghost use Rattle.sp_files.specs.Reporting.{Reports};
 ghost use Rattle.sp_runs.specs.declared.language.Language.{Language as AnyLanguage};
@@ -25,7 +25,7 @@ ghost use Rattle.sp_desk.specs.Hearing.{script_sessions};
 ghost use Rattle.sp_conduct.specs.Transcript.{AreOf, IsConducted, IsClosed, IsAsPlain};
 ghost use Rattle.sp_script.specs.Script.{script_text};
 ghost use Rattle.sp_script.specs.Summary.{summary_text};
-ghost use Rattle.sp_stress.specs.Stressing.{HearsScript, WritesSummary};
+ghost use Rattle.sp_stress.specs.Stressing.{EndsStress, HearsScript, WritesSummary};
 ghost use Rattle.sp_stress.specs.Summing.{summary_of};
 ghost use Rattle.spatial.specs.Commands.{status_of, script_task, IsOnFiles, Finishes, Makes, SaysNothing, NamesJournal};
 ghost use Rattle.spatial.specs.Completeness.{IsShort, IsAccepted, EndsWell};
@@ -93,9 +93,12 @@ pub fn offline<S: Source, K: Sink, H: Shelf>(
     ensures alone { (run : AnyRun) (s : ℕ) → Says words.now (Play run) → AreOf s result.transcript.items → IsAsPlain result.audit.base result.transcript.items }
     // `play` and `drill` over a short input and a whole journal: where no count of faults rose, all was read and written, or there was no memory.
     ensures complete { (language : AnyLanguage) (run : AnyRun) → Says words.now (script_task language run) → IsShort (S.left source.old) → IsAccepted run.journal (H.tells shelf.old) (H.holds shelf.old) → (Rose (S.read_faults source.old) (S.read_faults source.new) → ⊥) → (Rose (K.write_faults sink.old) (K.write_faults sink.new) → ⊥) → (MatchOption result.disks (Rose (H.faults shelf.old) (H.faults shelf.new)) (λ p. Rose 0 (H.Disk.faults p.main) ⊎ Rose 0 (H.Disk.faults p.alt)) → ⊥) → EndsWell result.status }
-    // The same of `dump` and `check` over a whole journal, and of `make`.
+    // The same of `dump` and `check` over a whole journal, and of `make` and `stress`.
     ensures complete_reports { (name : List ℕ) → Says words.now (Dump name) ⊎ Says words.now (Check name) → IsAccepted (Some name) (H.tells shelf.old) (H.holds shelf.old) → (Rose (K.write_faults sink.old) (K.write_faults sink.new) → ⊥) → (MatchOption result.disks (Rose (H.faults shelf.old) (H.faults shelf.new)) (λ p. Rose 0 (H.Disk.faults p.main) ⊎ Rose 0 (H.Disk.faults p.alt)) → ⊥) → EndsWell result.status }
     ensures complete_make { (seed count : ℕ) → Says words.now (Make seed count) → (Rose (K.write_faults sink.old) (K.write_faults sink.new) → ⊥) → EndsWell result.status }
+    ensures complete_stress { (seed count : ℕ) (shape : AnyShape) → Says words.now (Stress seed count shape) → (Rose (K.write_faults sink.old) (K.write_faults sink.new) → ⊥) → EndsWell result.status }
+    // Of `compact` over a whole journal whose generations are not used up.
+    ensures complete_compact { (name : List ℕ) → Says words.now (Compact name) → IsAccepted (Some name) (H.tells shelf.old) (H.holds shelf.old) → (IsWorn (H.holds shelf.old name) (H.holds shelf.old (alt_name name)) → ⊥) → (Rose (K.write_faults sink.old) (K.write_faults sink.new) → ⊥) → (MatchOption result.disks (Rose (H.faults shelf.old) (H.faults shelf.new)) (λ p. Rose 0 (H.Disk.faults p.main) ⊎ Rose 0 (H.Disk.faults p.alt)) → ⊥) → EndsWell result.status }
     // `stress`: the generated script is played in memory, and its summary written.
     ensures stress_status { (seed count : ℕ) (shape : AnyShape) → Says words.now (Stress seed count shape) → result.status ≡ status_of result.transcript.end }
     ensures stress_heard { (seed count : ℕ) (shape : AnyShape) → Says words.now (Stress seed count shape) → HearsScript result.transcript.end (script_text seed count) result.transcript.items }
@@ -159,6 +162,7 @@ fn perform<S: Source, K: Sink, H: Shelf>(
     ensures told { IsTold result.transcript.end result.transcript.items result.audit }
     ensures serial { Serial result.audit.base result.audit.commits }
     ensures stress_status { (seed count : ℕ) (shape : AnyShape) → task.now ≡ Stress seed count shape → result.status ≡ status_of result.transcript.end }
+    ensures stress_ends { (seed count : ℕ) (shape : AnyShape) → task.now ≡ Stress seed count shape → EndsStress result.transcript.end }
     ensures stress_heard { (seed count : ℕ) (shape : AnyShape) → task.now ≡ Stress seed count shape → HearsScript result.transcript.end (script_text seed count) result.transcript.items }
     ensures stress_runs { (seed count : ℕ) (shape : AnyShape) → task.now ≡ Stress seed count shape → RunsInMemory Language.Commands shape result.transcript.end result.transcript.items result.audit }
     ensures stress_written { (seed count : ℕ) (shape : AnyShape) → task.now ≡ Stress seed count shape → WritesSummary result.transcript.end (K.taken sink.old) (K.taken sink.new) (K.write_faults sink.old) (K.write_faults sink.new) (summary_text (summary_of result.transcript.items result.audit)) }

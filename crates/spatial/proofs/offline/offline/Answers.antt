@@ -1,6 +1,6 @@
-use Rattle.std.proofs.Common.{inr, refl}
+use Rattle.std.proofs.Common.{inl, inr, refl}
 use Rattle.sp_text.specs.declared.types.End.TheVariants.{Memory as WantsMemory}
-use Rattle.sp_command.specs.declared.task.Task.TheVariants.{Play, Dump, Check, Make, Stress}
+use Rattle.sp_command.specs.declared.task.Task.TheVariants.{Play, Dump, Check, Compact, Make, Stress}
 use Rattle.sp_conduct.proofs.Alone.{as_plain}
 use Rattle.sp_script.specs.Script.{script_text}
 use Rattle.sp_report.specs.Report.{check_text, dump_text}
@@ -10,7 +10,7 @@ use Rattle.sp_runs.specs.Scripts.{form_of}
 use Rattle.sp_runs.proofs.Unstarted.{reads_none}
 use Rattle.spatial.proofs.Asked.{said, says_it, on_files, names_journal}
 use Rattle.spatial.specs.Commands.{script_task}
-use Rattle.spatial.proofs.Completeness.{ends_well, started, started_where, started_in_memory, started_on_files, reports_well, makes_well, whichever}
+use Rattle.spatial.proofs.Completeness.{ends_well, started, started_where, started_in_memory, started_on_files, reports_well, compacts_well, stresses_well, makes_well, whichever}
 use Rattle.spatial.proofs.Conduct.{run_fits, run_closed}
 use Rattle.spatial.proofs.Silence.{if_none, hears_none}
 use Rattle.spatial.proofs.offline.offline.Goals as goal
@@ -63,6 +63,18 @@ returns-in-Ok-Some-clause-complete_reports g c = λ name says accepted no_write 
     (λ checks. reports_well check_text _ _ accepted.1 accepted.2 _ accepted.0 _ _ _ _ no_write _ no_disk c.perform.result.status p.disk_fault (p.check name (is (Check name) checks)))
     says
 
+pub returns-in-Ok-Some-clause-complete_compact : goal.returns-in-Ok-Some-clause-complete_compact
+returns-in-Ok-Some-clause-complete_compact g c = λ name says accepted unworn no_write no_disk.
+    let is = said c.args.words.now c.in-Ok-Some.field-0 c.in-Ok-Some.task c.in-Ok-Some.ensures.says c.in-Ok-Some.field-0-is (Compact name) says in
+    let p = c.perform.ensures in
+    compacts_well _ _ accepted.1 accepted.2 unworn _ accepted.0 _ _ _ _ no_write _ no_disk _ _ c.perform.result.disks c.perform.result.status p.disk_fault (p.unfetched name (inr (inr (inl is)))) (p.compact name is)
+
+pub returns-in-Ok-Some-clause-complete_stress : goal.returns-in-Ok-Some-clause-complete_stress
+returns-in-Ok-Some-clause-complete_stress g c = λ seed count shape says no_write.
+    let is = said c.args.words.now c.in-Ok-Some.field-0 c.in-Ok-Some.task c.in-Ok-Some.ensures.says c.in-Ok-Some.field-0-is (Stress seed count shape) says in
+    let p = c.perform.ensures in
+    stresses_well c.perform.result.status c.perform.result.transcript.end _ no_write p.write_fault (p.stress_status seed count shape is) (p.stress_ends seed count shape is)
+
 pub returns-in-Ok-Some-clause-complete_make : goal.returns-in-Ok-Some-clause-complete_make
 returns-in-Ok-Some-clause-complete_make g c = λ seed count says no_write.
     makes_well c.perform.result.status seed count _ _ _ _ no_write (c.perform.ensures.make seed count (said c.args.words.now c.in-Ok-Some.field-0 c.in-Ok-Some.task c.in-Ok-Some.ensures.says c.in-Ok-Some.field-0-is (Make seed count) says))
@@ -111,6 +123,12 @@ returns-in-Err-clause-complete g c = λ language run says short accepted no_read
 
 pub returns-in-Err-clause-complete_reports : goal.returns-in-Err-clause-complete_reports
 returns-in-Err-clause-complete_reports g c = λ name says accepted no_write no_disk. inr c.refuse-in-Err.ensures.status
+
+pub returns-in-Err-clause-complete_compact : goal.returns-in-Err-clause-complete_compact
+returns-in-Err-clause-complete_compact g c = λ name says accepted unworn no_write no_disk. inr c.refuse-in-Err.ensures.status
+
+pub returns-in-Err-clause-complete_stress : goal.returns-in-Err-clause-complete_stress
+returns-in-Err-clause-complete_stress g c = λ seed count shape says no_write. inr c.refuse-in-Err.ensures.status
 
 pub returns-in-Err-clause-complete_make : goal.returns-in-Err-clause-complete_make
 returns-in-Err-clause-complete_make g c = λ seed count says no_write. inr c.refuse-in-Err.ensures.status
