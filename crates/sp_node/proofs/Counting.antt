@@ -1,5 +1,5 @@
 -- The index of leaves has one number for each entry.
-use Rattle.std.proofs.Common.{◌≡◌, ℕ, List, length, Option, Some, None, map, is_some, refl, sym, ap, ◌∙◌, subst}
+use Rattle.std.proofs.Common.{◌≡◌, ℕ, List, length, Option, Some, None, map, is_some, sym, ap, ◌∙◌, subst}
 use Rattle.std.specs.Prelude.{nat_eq, MatchOption}
 use Rattle.std.specs.List.{IsDistinct, list_any}
 use Rattle.std.specs.Map.{lookup, keys_of}

@@ -10,6 +10,7 @@ pub mod Update
 pub mod Level
 pub mod ByNumber
 pub mod Adopt
+pub mod Moving
 pub mod Parts
 pub mod Single
 pub mod Changed

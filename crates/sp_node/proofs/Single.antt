@@ -37,7 +37,7 @@ own_entries (suc level) number space bs = own_below level bs (λ b. own_entries 
 
 -- of distinct numbers, one stands in one list alone
 module _ (q : ℕ) where
-  present : (es : List Entry) → has_number es q ≡ true → (x : List ℕ) → AllByRecursion (IsNone x) (map (λ e. e.number) es) → IsNone x q
+  pub present : (es : List Entry) → has_number es q ≡ true → (x : List ℕ) → AllByRecursion (IsNone x) (map (λ e. e.number) es) → IsNone x q
   present [] h x a = cc
   present (e ∷ es) h x a = by_test (nat_eq q e.number) refl h (λ k. present es k x a.1)
     where

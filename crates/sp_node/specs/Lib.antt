@@ -1,5 +1,6 @@
 pub mod Among
 pub mod Marks
+pub mod Moving
 pub mod Nested
 pub mod Look
 pub mod Table

@@ -2,7 +2,8 @@
 ghost use Rattle.std.specs.Prelude.{◌≡◌, ◌+◌, ◌≤◌, ℕ, IfSome, Some, None, cond, length, nat_eq, OnOk, IsSome, true};
 ghost use Rattle.std.specs.HashMap.{get, spare};
 ghost use Rattle.std.specs.Option.{option_copied};
-ghost use Rattle.sp_node.specs.Index.{has_number, entry_in, is_held, noted};
+ghost use Rattle.sp_node.specs.Index.{has_number, entry_in, AreAllKnown};
+ghost use Rattle.sp_node.specs.Moving.{unmoved, is_leaving, arrived};
 ghost use Rattle.sp_node.specs.Plan.{entry_count, AreNoted, ArePartsNoted};
 ghost use Rattle.sp_node.specs.Marks.{is_made_by, is_ended_by, is_draft_of};
 ghost use Rattle.sp_node.specs.Known.{is_known, AreKnown, IsNoted, AreMarksNoted};
@@ -14,6 +15,20 @@ use crate::plan::Part;
 use crate::table::NodeTable;
 use std::alloc::AllocError;
 use std::collections::HashMap;
+
+// How many entries in front of the two lists have the same numbers and ids: these stay where they are.
+fn unmoved(before: &[Entry], after: &[Entry]) -> usize
+    ensures count { result ≡ unmoved before.now after.now }
+    ensures within { (result ≤ length before.now) × (result ≤ length after.now) }
+{
+    for (i, entry) in before.iter().enumerate() {
+        match after.get(i) {
+            Some(other) if entry.number == other.number && entry.id == other.id => {}
+            _ => return i,
+        }
+    }
+    before.len()
+}
 
 // Forgets the leaf of each entry.
 fn forget_entries(leaves: &mut HashMap<u64, u64>, entries: &[Entry])
@@ -36,26 +51,29 @@ fn note_entries(leaves: &mut HashMap<u64, u64>, entries: &[Entry], leaf: u64)
     }
 }
 
-/// Forgets the entries that stand in the leaves of these numbers.
+/// Forgets the entries that stood in the leaves of the parts' numbers, but for those that stay where they are.
 pub(crate) fn forget(leaves: &mut HashMap<u64, u64>, nodes: &NodeTable, parts: &[Part])
-    ensures gone { (q : ℕ) → get nat_eq leaves.new q ≡ cond (is_held nodes.now.nodes parts.now q) None (get nat_eq leaves.old q) }
+    ensures gone { (q : ℕ) → get nat_eq leaves.new q ≡ cond (is_leaving nodes.now.nodes parts.now q) None (get nat_eq leaves.old q) }
     ensures room { spare leaves.old ≤ spare leaves.new }
 {
     'back: for i in (0..parts.len()).rev() {
-        if let Some(node) = nodes.get(parts[i].number()) {
-            forget_entries(leaves, node.entries());
-        }
+        let part = &parts[i];
+        let before = nodes.entries(part.number());
+        let stay = unmoved(before, part.entries());
+        forget_entries(leaves, &before[stay..]);
     }
 }
 
-/// Notes the entries of the leaves among the parts.
-pub(crate) fn note(leaves: &mut HashMap<u64, u64>, parts: &[Part])
+/// Notes the entries of the leaves among the parts, but for those that stay where they are.
+pub(crate) fn note(leaves: &mut HashMap<u64, u64>, nodes: &NodeTable, parts: &[Part])
     requires { entry_count parts.now ≤ spare leaves.old }
-    ensures { (q : ℕ) → get nat_eq leaves.new q ≡ noted parts.now q (get nat_eq leaves.old q) }
+    ensures { (q : ℕ) → get nat_eq leaves.new q ≡ arrived nodes.now.nodes parts.now q (get nat_eq leaves.old q) }
 {
     'back: for i in (0..parts.len()).rev() {
         let part = &parts[i];
-        note_entries(leaves, part.entries(), part.number());
+        let after = part.entries();
+        let stay = unmoved(nodes.entries(part.number()), after);
+        note_entries(leaves, &after[stay..], part.number());
     }
 }
 
@@ -94,13 +112,21 @@ fn note_ids_of(ids: &mut PairIndex, entries: &[Entry]) -> Result<(), AllocError>
     Ok(())
 }
 
-/// Notes the ids of the entries of the leaves among the parts.
-pub(crate) fn note_ids(ids: &mut PairIndex, parts: &[Part]) -> Result<(), AllocError>
+/// Notes the ids of the entries of the leaves among the parts. Those of entries that stay where they are are known.
+pub(crate) fn note_ids(
+    ids: &mut PairIndex,
+    nodes: &NodeTable,
+    parts: &[Part],
+) -> Result<(), AllocError>
+    requires { AreAllKnown ids.old nodes.now.nodes }
     ensures noted { OnOk result (AreNoted ids.new parts.now) }
     ensures kept { (i n : ℕ) → is_known ids.old i n ≡ true → is_known ids.new i n ≡ true }
 {
     'back: for i in (0..parts.len()).rev() {
-        note_ids_of(ids, parts[i].entries())?;
+        let part = &parts[i];
+        let after = part.entries();
+        let stay = unmoved(nodes.entries(part.number()), after);
+        note_ids_of(ids, &after[stay..])?;
     }
     Ok(())
 }
@@ -116,7 +142,7 @@ fn forget_ids_of(ids: &mut PairIndex, leaves: &HashMap<u64, u64>, entries: &[Ent
     }
 }
 
-/// Forgets the ids of those entries that have no leaf, of those that stood in the leaves of the parts' numbers.
+/// Forgets the ids of those entries that have no leaf, of those that left the leaves of the parts' numbers.
 pub(crate) fn forget_ids(
     ids: &mut PairIndex,
     leaves: &HashMap<u64, u64>,
@@ -126,9 +152,9 @@ pub(crate) fn forget_ids(
     ensures { (i n : ℕ) → IsSome (get nat_eq leaves.now n) → is_known ids.new i n ≡ is_known ids.old i n }
 {
     for part in parts {
-        if let Some(node) = nodes.get(part.number()) {
-            forget_ids_of(ids, leaves, node.entries());
-        }
+        let before = nodes.entries(part.number());
+        let stay = unmoved(before, part.entries());
+        forget_ids_of(ids, leaves, &before[stay..]);
     }
 }
 

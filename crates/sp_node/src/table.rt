@@ -1,11 +1,11 @@
 // Nodes by their numbers.
 ghost use Rattle.std.specs.Prelude.{◌≡◌, ◌+◌, ◌<◌, ◌≤◌, ◌-◌, [], OnOk, length, vec_len, vec_capacity};
 ghost use Rattle.std.specs.Option.{option_copied};
-ghost use Rattle.sp_node.specs.Look.{look, IsAscending, put_node, take_out};
+ghost use Rattle.sp_node.specs.Look.{look, entries_in, IsAscending, put_node, take_out};
 ghost use Rattle.sp_node.specs.Plan.{with_parts};
 ghost use Rattle.sp_node.specs.First.{changed, node_first_changed, first_node_changed};
 
-use crate::node::{Change, Children, Node, change_node};
+use crate::node::{Change, Children, Entry, Node, change_node};
 use crate::plan::{Part, Parts};
 use std::alloc::{AllocError, Global};
 use std::marker::Model;
@@ -85,6 +85,16 @@ impl NodeTable {
         match self.pairs.binary_search_by_key(&number, |pair| pair.0) {
             Ok(at) => Some(&self.pairs[at].1),
             Err(_) => None,
+        }
+    }
+
+    /// The entries of the leaf of this number; none where it is no leaf's.
+    pub(crate) fn entries(&self, number: u64) -> &[Entry]
+        ensures { result.now ≡ entries_in (look self.now.nodes number) }
+    {
+        match self.get(number) {
+            Some(node) => node.entries(),
+            None => &[],
         }
     }
 

@@ -316,18 +316,19 @@ impl Tree {
         let entries = count_entries(parts).ok_or(AllocError)?;
         self.nodes.reserve(parts.len())?;
         self.leaves.reserve(entries)?;
-        note_ids(&mut self.ids, parts)?;
+        note_ids(&mut self.ids, &self.nodes, parts)?;
         note_marks_in(&mut self.marks, parts)
     }
 
-    /// Puts the plan's nodes in place of the tree's. Takes no memory. Costs the parts.
+    /// Puts the plan's nodes in place of the tree's. Takes no memory. Costs the parts, and a look at tables for each
+    /// entry that does not stay in front in its leaf.
     pub fn adopt(&mut self, plan: Plan)
         requires made { IsMadeOf self.old.table plan }
         requires room { HasRoom self.old plan }
         ensures { self.new.table ≡ planned self.old.table plan }
     {
         forget(&mut self.leaves, &self.nodes, plan.parts.as_slice());
-        note(&mut self.leaves, plan.parts.as_slice());
+        note(&mut self.leaves, &self.nodes, plan.parts.as_slice());
         forget_ids(
             &mut self.ids,
             &self.leaves,

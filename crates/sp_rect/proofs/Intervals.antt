@@ -1,7 +1,7 @@
 -- Tests of intervals in space.
 use Rattle.std.proofs.Common.{◌≡◌, ℤ, pos, negsuc, Bool, true, false, ◌&&◌, ◌≤ℤ◌, arith, refl, IsTrue, ap, ◌∙◌}
 use Rattle.std.specs.Prelude.{int_le}
-use Rattle.std.proofs.lemmas.Int.{ints, to_z-of_z}
+use Rattle.std.proofs.lemmas.Int.{ints}
 use Rattle.sp_rect.specs.Plane.{is_coordinate, is_interval, lowest, highest}
 use Rattle.sp_rect.proofs.Corners.{stored, stored_same}
 

@@ -1,4 +1,4 @@
-use Rattle.std.proofs.Common.{◌≡◌, length, ◌∙◌, ap}
+use Rattle.std.proofs.Common.{length, ◌∙◌, ap}
 use Rattle.sp_node.specs.Plan.{Roomy}
 use Rattle.sp_node.specs.Table.{Table, entries_of}
 use Rattle.sp_node.proofs.Counting.{as_many_entries}
