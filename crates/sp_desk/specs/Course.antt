@@ -28,7 +28,7 @@ pub record IsUntouched {D : Type 0} (old new : Whole D) : Type 0 where
   pub kernel : new.kernel ≡ old.kernel
   pub disk : new.disk ≡ old.disk
 
--- Events led from the one to the other. Over a disk that tells its bytes a stop left, at every moment from before the first event on, what a kernel on the way has committed, in a file that keeps the kind of one that a stop at the start might have left. The kernel was stopped only where the disk's count of faults rose.
+-- Events led from the one to the other. Over a disk that tells its bytes a stop left, at every moment from before the first event on, what a kernel on the way has committed, in a file that keeps the kind and the header of one that a stop at the start might have left. The kernel was stopped only where the disk's count of faults rose.
 pub record Course {D : Type 0} (tells takes : D → Bool) (faults moment : D → ℕ) (images : D → ℕ → List ℕ → Type 0) (old new : Whole D) : Type 0 where
   pub leads : Leads old.kernel new.kernel
   pub crash : IsTrue (tells old.disk) → IsUntouched old new ⊎ LeavesOnly (moment old.disk) (moment new.disk) (images old.disk) (images new.disk) (IsLeftBetween old.kernel new.kernel)

@@ -31,7 +31,7 @@ use std::alloc::Global;
 /// be rolled back. It ends by `ReadFault` or `WriteFault` only where that object's count rose, by `DiskFault` only where the disk's count rose or
 /// the kernel was stopped before, and by `Long` where as much was read as is read at most, and the source has not ended. With `DiskFault` and
 /// `Memory` events of the next command may be done that no item tells. Whatever the end, a stop at any moment leaves a file that is recovered as a
-/// kernel on the way has it, and that keeps the kind of one that a stop before the run might have left. Costs what the events cost, and each line an
+/// kernel on the way has it, and that keeps the kind and the header of one that a stop before the run might have left. Costs what the events cost, and each line an
 /// event for each operation that waits.
 pub fn play<D: Disk, S: Source, K: Sink>(
     alloc: Global,

@@ -19,7 +19,7 @@ pub record IsLeftBetween (k n : Kernel) (file : List ℕ) : Type 0 where
   pub after : LeadsTo kernel n
   pub holds : HoldsOrMore kernel file
 
--- One kernel over a disk became another by events. Unless nothing was done, each moment of it leaves what some kernel on the way has; and a file that keeps the kind of one that a stop at the start might have left.
+-- One kernel over a disk became another by events. Unless nothing was done, each moment of it leaves what some kernel on the way has; and a file that keeps the kind and the header of one that a stop at the start might have left.
 pub record Leads {D : Type 0} (tells takes : D → Bool) (faults moment : D → ℕ) (images : D → ℕ → List ℕ → Type 0) (w v : Whole D) : Type 0 where
   pub goes : LeadsTo w.kernel v.kernel
   pub leaves : IsTrue (tells w.disk) → (v ≡ w) ⊎ LeavesOnly (moment w.disk) (moment v.disk) (images w.disk) (images v.disk) (IsLeftBetween w.kernel v.kernel)

@@ -29,7 +29,7 @@ use std::alloc::Global;
 /// It ends by `Input` where the script was read to its end and all was written; by `ReadFault`, `WriteFault` or `DiskFault` only where that
 /// object's count rose; and by `Long` where as much was read as is read at most, and the source has not ended. A fault of the disk is the answer to
 /// a flush, the last item. With `Memory` the kernel may be one event further than the items tell. Whatever the end, a stop at any moment leaves a
-/// file that is recovered as a kernel on the way has it, and that keeps the kind of one that a stop before the run might have left. Costs what the
+/// file that is recovered as a kernel on the way has it, and that keeps the kind and the header of one that a stop before the run might have left. Costs what the
 /// events cost.
 pub fn drill<D: Disk, S: Source, K: Sink>(
     alloc: Global,

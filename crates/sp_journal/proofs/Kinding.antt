@@ -5,13 +5,13 @@ use Rattle.sp_disk.specs.Moments.{Passes, LeavesOnly}
 use Rattle.sp_journal.specs.declared.kind.Kind.{Kind}
 use Rattle.sp_journal.specs.declared.kind.Kind.TheVariants.{Unfinished, Settled}
 use Rattle.sp_journal.specs.Format.{header_bytes, entry_bytes, body_bytes}
-use Rattle.sp_journal.specs.Kinds.{IsKind, empty, foreign, unfinished, settled, IsFresh, unmade, first, KeepsKind, KeepsOneOf}
+use Rattle.sp_journal.specs.Kinds.{IsKind, empty, foreign, unfinished, settled, IsFresh, unmade, first, KeepsKind, HasVersion, KeepsHeader, KeepsOneOf}
 use Rattle.sp_journal.specs.Opening.{KeptOrMade}
 use Rattle.sp_journal.specs.Recovery.{Base, IsBase, IsHeader, Leads, start, more, head, NeedsMaking, short, unfinished as needs_unfinished}
 use Rattle.sp_journal.specs.declared.types.Recovered.{Recovered}
 use Rattle.sp_journal.proofs.Crashes.{length-header, length-head}
 use Rattle.sp_journal.proofs.Passing.{one_call, no_call}
-use Rattle.sp_journal.proofs.Prefixes.{header_same}
+use Rattle.sp_journal.proofs.Prefixes.{header_same, same_front}
 
 le_or_lt : (a b : ℕ) → (a ≤ b) ⊎ (b < a)
 le_or_lt a b = grind arith
@@ -115,6 +115,14 @@ keeps_behind base gate gate' rest rest' was file is begun stands stands' longer 
   ];
 }
 
+-- and keeps its header
+pub header_behind : (base : Base) (gate gate' : ℕ) (rest rest' was file : List ℕ) → was ≡ head base ++ gate ∷ rest → file ≡ head base ++ gate' ∷ rest' → KeepsHeader was file
+header_behind base gate gate' rest rest' was file stands stands' version generation has =
+    let H : List ℕ = header_bytes base.version base.generation in
+    let G : List ℕ = header_bytes version generation in
+    let same : H ≡ G = (same_front H G (base.front ++ gate ∷ rest) has.0 (length-header base.version base.generation ∙ sym (length-header version generation)) (sym (append_assoc H base.front (gate ∷ rest)) ∙ sym stands ∙ has.1)).piece in
+    (base.front ++ gate' ∷ rest', stands' ∙ append_assoc H base.front (gate' ∷ rest') ∙ ap (λ (l : List ℕ). l ++ (base.front ++ gate' ∷ rest')) same)
+
 -- a file that is to be made anew stays so
 pub unmade_keeps : (was file : List ℕ) → NeedsMaking was → NeedsMaking file → KeepsKind was file
 unmade_keeps was file needs still = record { settled = λ version generation is. absurd (made_already was version generation needs is); fresh = λ fresh. unmade still }
@@ -131,12 +139,12 @@ keeps_on was mid file one two = record { settled = λ version generation is. two
 -- a file that was made anew where that was due
 pub keeps_made : (was reads : List ℕ) → KeptOrMade was reads → KeepsKind was reads
 keeps_made was reads which = elim which [
-  | inl same ↦ keeps_same was reads same
+  | inl kept ↦ keeps_same was reads kept.3
   | inr made ↦ unmade_keeps was reads made.0 (short (omega (arith, ap length made.1, length-append (header_bytes 2 1) (0 ∷ []), length-header 2 1)))
 ]
 
 pub one_itself : (leaves : List ℕ → Type 0) (file : List ℕ) → leaves file → KeepsOneOf leaves file
-one_itself leaves file left = record { was = file; left = left; keeps = keeps_itself file }
+one_itself leaves file left = record { was = file; left = left; keeps = keeps_itself file; header = λ version generation has. has }
 
 -- one call of the disk, of which a stop leaves files of these kinds
 pub call_keeps : (before now : ℕ) (old new : ℕ → List ℕ → Type 0) → Passes before now old new → ((file : List ℕ) → new now file → KeepsOneOf (old before) file) → LeavesOnly before now old new (KeepsOneOf (old before))
@@ -159,7 +167,12 @@ runs_keep a b c old mid new one two = record {
     | inr above ↦
         let behind = two.each k file (omega (arith, above)) high left in
         let first_run = one.each b behind.was one.later (omega arith) behind.left in
-        record { was = first_run.was; left = first_run.left; keeps = keeps_on first_run.was behind.was file first_run.keeps behind.keeps }
+        record {
+          was = first_run.was;
+          left = first_run.left;
+          keeps = keeps_on first_run.was behind.was file first_run.keeps behind.keeps;
+          header = λ version generation has. behind.header version generation (first_run.header version generation has);
+        }
   ];
   past = λ k file low.
       let down = two.past k file (omega (arith, low, one.later)) in let up = one.past k file low in
@@ -173,3 +186,10 @@ only_keeps before now old new reads only run = record {
   each = λ k file low high left. let one = run.each k file low high left in subst (λ (w : List ℕ). KeepsKind w file) (only one.was one.left) one.keeps;
   past = run.past;
 }
+
+-- a run over a file of that version leaves it one
+pub run_keeps_version : (version before now : ℕ) (old new : ℕ → List ℕ → Type 0) → LeavesOnly before now old new (KeepsOneOf (old before)) → ((file : List ℕ) → old before file → HasVersion version file) → (file : List ℕ) → new now file → HasVersion version file
+run_keeps_version version before now old new run has file left =
+    let one = run.each now file run.later (omega arith) left in
+    let was = has one.was one.left in
+    (was.0, was.1, one.header version was.0 was.2)

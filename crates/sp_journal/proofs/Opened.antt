@@ -8,9 +8,9 @@ use Rattle.sp_journal.specs.declared.types.Recovered.{Recovered}
 use Rattle.sp_journal.specs.declared.work.Phase.TheVariants.{Ready}
 use Rattle.sp_journal.specs.declared.work.Work.{Work}
 use Rattle.sp_journal.specs.Format.{header_bytes, framed}
-use Rattle.sp_journal.specs.Kinds.{IsKind, empty, unfinished as kind_unfinished, KeepsKind}
+use Rattle.sp_journal.specs.Kinds.{IsKind, empty, unfinished as kind_unfinished, settled, KeepsKind, HasHeader}
 use Rattle.sp_journal.specs.Looking.{OnlyReads}
-use Rattle.sp_journal.specs.Opening.{RecoversAs, Opens, synced, IsReady, IsAttached}
+use Rattle.sp_journal.specs.Opening.{RecoversAs, Opens, synced, KeptOrMade, BeginsAs, as_settled, as_new, IsReady, IsAttached}
 use Rattle.sp_journal.specs.Recovery.{Base, start, nothing, Recovers, Holds, NeedsMaking, short, unfinished, HoldsNothing, new_file}
 use Rattle.sp_journal.specs.Scanning.{Held, Rests}
 use Rattle.sp_journal.specs.Standing.{Ledger, Stands, IsNext, IsInFlight, Lies}
@@ -146,8 +146,24 @@ pub prepared_keeps : (before mid now : ℕ) (reads reads' : List ℕ) (old betwe
 prepared_keeps before mid now reads reads' old between new looks only run =
     chained before mid now old between new (KeepsKind reads) (looked_keeps before mid reads reads' old between looks only) (subst (λ (w : List ℕ). LeavesOnly mid now between new (KeepsKind w)) looks.bytes run)
 
+-- a settled file begins with its header
+settled_begins : (file : List ℕ) (version generation : ℕ) → IsKind file (Settled version generation) → HasHeader version generation file
+settled_begins file version generation (settled v g gate tail long is open_gate stands) = (gate ∷ tail, stands)
+
+begins_as : (was reads : List ℕ) → KeptOrMade was reads → BeginsAs was reads
+begins_as was reads which = elim which [
+  | inl kept ↦ as_settled kept.0 kept.1 kept.2 (subst (λ (f : List ℕ). HasHeader kept.0 kept.1 f) (sym kept.3) (settled_begins was kept.0 kept.1 kept.2))
+  | inr made ↦ as_new made.0 (0 ∷ [], made.1)
+]
+
 -- a journal over a file of which a stop leaves what a read gives
 pub attached_keeps : (was reads : List ℕ) (leaves : List ℕ → Type 0) (work : Work) (found : Recovered) → IsAttached was reads leaves work found → work.phase ≡ Ready → (file : List ℕ) → leaves file → KeepsKind was file
 attached_keeps was reads leaves work found is phase file left =
     let at : Lies Ready is.ledger reads leaves = subst (λ p. Lies p is.ledger reads leaves) phase is.stands.file in
     subst (λ (f : List ℕ). KeepsKind was f) (sym (at.4 file left)) (keeps_made was reads is.kept)
+
+-- and it begins with the header of the settled file, or of a new one
+pub attached_begins : (was reads : List ℕ) (leaves : List ℕ → Type 0) (work : Work) (found : Recovered) → IsAttached was reads leaves work found → work.phase ≡ Ready → (file : List ℕ) → leaves file → BeginsAs was file
+attached_begins was reads leaves work found is phase file left =
+    let at : Lies Ready is.ledger reads leaves = subst (λ p. Lies p is.ledger reads leaves) phase is.stands.file in
+    subst (λ (f : List ℕ). BeginsAs was f) (sym (at.4 file left)) (begins_as was reads is.kept)

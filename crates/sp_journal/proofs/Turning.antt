@@ -14,8 +14,8 @@ use Rattle.sp_journal.specs.Recovery.{Base, head, all_changes}
 use Rattle.sp_journal.specs.Standing.{Ledger, applied, with_entry, IsBefore, IsBeforeOrAfter, Lies, IsInFlight, IsNext, Stands, Keeps, turned, queued_behind}
 use Rattle.sp_journal.proofs.Bounds.{commits_push}
 use Rattle.sp_journal.proofs.Chunks.{length-u32}
-use Rattle.sp_journal.specs.Kinds.{KeepsKind}
-use Rattle.sp_journal.proofs.Kinding.{keeps_behind}
+use Rattle.sp_journal.specs.Kinds.{KeepsOneOf}
+use Rattle.sp_journal.proofs.Kinding.{keeps_behind, header_behind}
 use Rattle.sp_journal.proofs.Crashes.{applied_is, closed_gate, any_gate, longer, opened, torn_behind, torn_gate, put_behind, put_gate}
 
 pub all_append : (xs ys : List (List Change)) → all_changes (xs ++ ys) ≡ all_changes xs ++ all_changes ys
@@ -96,13 +96,18 @@ module _ (reads : List ℕ) (leaves : List ℕ → Type 0) (work : Work) (ledger
       let at = lies Ready is in let got = body_images is n later torn at file left in
       closed_gate ledger.base at.0 got.0 file stands.base at.2 got.1
 
-  -- and it keeps the kind of the file
-  pub body_keeps : work.phase ≡ Ready → (n : ℕ) (was file : List ℕ) → leaves was → Torn (work.end + 1) n was file → KeepsKind was file
+  -- and it keeps the kind and the header of the file
+  pub body_keeps : work.phase ≡ Ready → (n : ℕ) (was file : List ℕ) → leaves was → Torn (work.end + 1) n was file → KeepsOneOf leaves file
   body_keeps is n was file left torn =
       let at = lies Ready is in
       let was_stands = at.4 was left ∙ at.3 in
       let got = torn_behind (head ledger.base) at.0 at.1 n was file was_stands (subst (λ (e : ℕ). Torn (e + 1) n was file) stands.end torn) in
-      keeps_behind ledger.base at.0 at.0 at.1 got.0 was file stands.base stands.settled was_stands got.1 torn.no_shorter
+      record {
+        was = was;
+        left = left;
+        keeps = keeps_behind ledger.base at.0 at.0 at.1 got.0 was file stands.base stands.settled was_stands got.1 torn.no_shorter;
+        header = header_behind ledger.base at.0 at.0 at.1 got.0 was file was_stands got.1;
+      }
 
   -- the work goes on in another phase
   pub moved : (new : Work) (reads' : List ℕ) (leaves' : List ℕ → Type 0) (phase : Phase) → Keeps work new → new.phase ≡ phase → IsNext phase work.end work.next (length work.flight.items)
@@ -171,12 +176,17 @@ module _ (reads : List ℕ) (leaves : List ℕ → Type 0) (work : Work) (ledger
       let from = torn file left in
       torn_gate (head ledger.base) at.0 (framed ledger.flight ++ at.1) from.0 file (at.4 from.0 from.1 ∙ at.3) (subst (λ (e : ℕ). Torn e 1 from.0 file) stands.end from.2)
 
-  pub gate_keeps : work.phase ≡ Settled → (was file : List ℕ) → leaves was → Torn work.end 1 was file → KeepsKind was file
+  pub gate_keeps : work.phase ≡ Settled → (was file : List ℕ) → leaves was → Torn work.end 1 was file → KeepsOneOf leaves file
   gate_keeps is was file left torn =
       let at = lies Settled is in
       let was_stands = at.4 was left ∙ at.3 in
       let got = torn_gate (head ledger.base) at.0 (framed ledger.flight ++ at.1) was file was_stands (subst (λ (e : ℕ). Torn e 1 was file) stands.end torn) in
-      keeps_behind ledger.base at.0 got.0 (framed ledger.flight ++ at.1) (framed ledger.flight ++ at.1) was file stands.base stands.settled was_stands got.1 torn.no_shorter
+      record {
+        was = was;
+        left = left;
+        keeps = keeps_behind ledger.base at.0 got.0 (framed ledger.flight ++ at.1) (framed ledger.flight ++ at.1) was file stands.base stands.settled was_stands got.1 torn.no_shorter;
+        header = header_behind ledger.base at.0 got.0 (framed ledger.flight ++ at.1) (framed ledger.flight ++ at.1) was file was_stands got.1;
+      }
 
   pub gate_leaves : work.phase ≡ Settled → (leaves' : List ℕ → Type 0) → ((file : List ℕ) → leaves' file → (was : List ℕ) × leaves was × Torn work.end 1 was file) → (file : List ℕ) → leaves' file → IsBeforeOrAfter ledger file
   gate_leaves is leaves' torn file left =

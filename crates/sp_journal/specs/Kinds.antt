@@ -23,8 +23,21 @@ pub record KeepsKind (was file : List ℕ) : Type 0 where
   pub settled : (version generation : ℕ) → IsKind was (Settled version generation) → IsKind file (Settled version generation)
   pub fresh : IsFresh was → IsFresh file
 
--- The file keeps the kind of one that a stop might have left.
+-- The file begins with the header of that version and generation.
+abbrev pub HasHeader : ℕ → ℕ → List ℕ → Type 0
+HasHeader version generation file = (rest : List ℕ) × (file ≡ header_bytes version generation ++ rest)
+
+-- The file begins with a valid header of that version.
+abbrev pub HasVersion : ℕ → List ℕ → Type 0
+HasVersion version file = (generation : ℕ) × IsHeader version generation × HasHeader version generation file
+
+-- Whatever header that file begins with, this one begins with it too.
+abbrev pub KeepsHeader : List ℕ → List ℕ → Type 0
+KeepsHeader was file = (version generation : ℕ) → HasHeader version generation was → HasHeader version generation file
+
+-- The file keeps the kind and the header of one that a stop might have left.
 pub record KeepsOneOf (leaves : List ℕ → Type 0) (file : List ℕ) : Type 0 where
   pub was : List ℕ
   pub left : leaves was
   pub keeps : KeepsKind was file
+  pub header : KeepsHeader was file

@@ -1,10 +1,12 @@
 -- A file is opened for writing.
 use Rattle.std.specs.Prelude.{◌≡◌, ◌⊎◌, ◌≤◌, ◌+◌, ◌↔◌, ℕ, List, []}
 use Rattle.sp_disk.specs.Moments.{LeavesOnly}
+use Rattle.sp_journal.specs.declared.kind.Kind.TheVariants.{Settled}
 use Rattle.sp_journal.specs.declared.types.JournalError.{JournalError}
 use Rattle.sp_journal.specs.declared.types.JournalError.TheVariants.{Foreign as SaysForeign, Damaged as SaysDamaged, Worn, Fault, Memory}
 use Rattle.sp_journal.specs.declared.types.Recovered.{Recovered}
 use Rattle.sp_journal.specs.declared.work.Work.{Work}
+use Rattle.sp_journal.specs.Kinds.{IsKind, HasHeader}
 use Rattle.sp_journal.specs.Recovery.{Base, Outcome, Foreign, Damaged, Holds, Recovers, NeedsMaking, new_file}
 use Rattle.sp_journal.specs.Scanning.{Rests}
 use Rattle.sp_journal.specs.Standing.{Ledger, Stands}
@@ -19,9 +21,14 @@ pub data Opens (before now : ℕ) (old new : ℕ → List ℕ → Type 0) (P : L
   refused : now ≤ before + 1 → LeavesOnly before now old new (old before) → Opens before now old new P
   synced : (first : ℕ) → before ≤ first → first ≤ before + 1 → ((k : ℕ) (file : List ℕ) → first ≤ k → k ≤ now → new k file → P file) → ((k : ℕ) (file : List ℕ) → k ≤ before → new k file ↔ old k file) → Opens before now old new P
 
--- The file is as it was, or it was made anew, where that was due.
+-- The file was settled and is as it was, or it was made anew, where that was due.
 abbrev pub KeptOrMade : List ℕ → List ℕ → Type 0
-KeptOrMade was reads = (reads ≡ was) ⊎ (NeedsMaking was × (reads ≡ new_file))
+KeptOrMade was reads = ((version generation : ℕ) × IsKind was (Settled version generation) × (reads ≡ was)) ⊎ (NeedsMaking was × (reads ≡ new_file))
+
+-- The file begins with the header of that one, which is settled, or with the header of a new file, where that one was to be made anew.
+pub data BeginsAs (was file : List ℕ) : Type 0 where
+  as_settled : (version generation : ℕ) → IsKind was (Settled version generation) → HasHeader version generation file → BeginsAs was file
+  as_new : NeedsMaking was → HasHeader 2 1 file → BeginsAs was file
 
 -- Entries can be added at that offset, and a stop leaves what a read gives.
 pub record IsReady (was reads : List ℕ) (leaves : List ℕ → Type 0) (end : ℕ) (found : Recovered) : Type 0 where

@@ -4,7 +4,7 @@ ghost use Rattle.sp_disk.specs.Faults.{HasCause, Rose};
 ghost use Rattle.sp_disk.specs.Moments.{LeavesOnly};
 ghost use Rattle.sp_journal.specs.declared.types.Recovered.{Recovered as RecoveredOf};
 ghost use Rattle.sp_journal.specs.Kinds.{IsKind, KeepsKind};
-ghost use Rattle.sp_journal.specs.Opening.{RecoversAs, Opens, IsReady, IsAttached, Refused};
+ghost use Rattle.sp_journal.specs.Opening.{RecoversAs, Opens, BeginsAs, IsReady, IsAttached, Refused};
 ghost use Rattle.sp_journal.specs.Scanning.{Held, AreHeld};
 
 use crate::create::create;
@@ -73,7 +73,8 @@ impl<D: Disk> Journal<D> {
     ///
     /// Of every disk, the records are by strictly ascending id, and at most 1048576.
     /// From the first sync on, a stop at any moment leaves a file that is recovered to the same, and keeps its
-    /// kind: settled with its version and generation, or fresh. So does whatever a stop leaves of the journal then.
+    /// kind: settled with its version and generation, or fresh. So does whatever a stop leaves of the journal then, and
+    /// it begins with the header of the settled file, or with that of a new one, of version 2 and generation 1.
     /// `Foreign` and `Damaged` come exactly where the file is so, and leave it as it was; with an error
     /// the disk is handed back.
     pub fn attach(alloc: Global, disk: D) -> Result<(Journal<D>, Recovered), (D, JournalError)>
@@ -84,6 +85,7 @@ impl<D: Disk> Journal<D> {
         ensures crash { IsTrue (D.tells disk) → MatchResult result (λ p. Opens (D.moment disk) (D.moment p.0.disk) (D.images disk) (D.images p.0.disk) (RecoversAs (D.reads disk))) (λ e. Opens (D.moment disk) (D.moment e.0) (D.images disk) (D.images e.0) (RecoversAs (D.reads disk))) }
         ensures kinds { IsTrue (D.tells disk) → MatchResult result (λ p. Opens (D.moment disk) (D.moment p.0.disk) (D.images disk) (D.images p.0.disk) (KeepsKind (D.reads disk))) (λ e. Opens (D.moment disk) (D.moment e.0) (D.images disk) (D.images e.0) (KeepsKind (D.reads disk))) }
         ensures kept { IsTrue (D.tells disk) → IfOk result (λ p. (file : List ℕ) → D.images p.0.disk (D.moment p.0.disk) file → KeepsKind (D.reads disk) file) }
+        ensures begins { IsTrue (D.tells disk) → IfOk result (λ p. (file : List ℕ) → D.images p.0.disk (D.moment p.0.disk) file → BeginsAs (D.reads disk) file) }
         ensures later { MatchResult result (λ p. D.faults disk ≤ D.faults p.0.disk) (λ e. D.faults disk ≤ D.faults e.0) }
         ensures fault { IfErr result (λ e. e.1 ≡ JournalError.Fault → Rose (D.faults disk) (D.faults e.0)) }
         ensures tells { MatchResult result (λ p. D.tells p.0.disk ≡ D.tells disk) (λ e. D.tells e.0 ≡ D.tells disk) }

@@ -5,7 +5,7 @@ ghost use Rattle.sp_node.specs.Table.{IsShape};
 ghost use Rattle.sp_disk.specs.Faults.{Rose};
 ghost use Rattle.sp_disk.specs.Moments.{LeavesOnly};
 ghost use Rattle.sp_journal.specs.Kinds.{KeepsKind, KeepsOneOf};
-ghost use Rattle.sp_journal.specs.Opening.{Opens, RecoversAs};
+ghost use Rattle.sp_journal.specs.Opening.{Opens, RecoversAs, BeginsAs};
 ghost use Rattle.sp_model.specs.Opening.{IsOpened};
 ghost use Rattle.sp_model.specs.Soundness.{Sound};
 ghost use Rattle.sp_durable.specs.Recovered.{IsLeftInCall, HoldsOrMore};
@@ -80,8 +80,9 @@ impl<D: Disk> Kernel<D> {
     /// count of faults rose. With an error the disk is handed back.
     ///
     /// From the first sync on, which is the first call, a stop at any moment leaves a file that is recovered to the
-    /// same, and keeps its kind; so does whatever a stop leaves of a kernel that has started. Costs the file, and an
-    /// insertion for each record.
+    /// same, and keeps its kind; so does whatever a stop leaves of a kernel that has started, and it begins with the
+    /// header of the settled file, or with that of a new one, of version 2. Costs the file, and an insertion for each
+    /// record.
     pub fn start(alloc: Global, disk: D, shape: Shape) -> Result<Kernel<D>, (D, StartError)>
         requires { IsShape shape }
         ensures opened { IfOk result (λ kernel. (records : List AnyRecord) × IsOpened shape records kernel.kernel) }
@@ -90,6 +91,7 @@ impl<D: Disk> Kernel<D> {
         ensures crash { IsTrue (D.tells disk) → MatchResult result (λ kernel. Opens (D.moment disk) (D.moment kernel.disk) (D.images disk) (D.images kernel.disk) (RecoversAs (D.reads disk))) (λ e. Opens (D.moment disk) (D.moment e.0) (D.images disk) (D.images e.0) (RecoversAs (D.reads disk))) }
         ensures kinds { IsTrue (D.tells disk) → MatchResult result (λ kernel. Opens (D.moment disk) (D.moment kernel.disk) (D.images disk) (D.images kernel.disk) (KeepsKind (D.reads disk))) (λ e. Opens (D.moment disk) (D.moment e.0) (D.images disk) (D.images e.0) (KeepsKind (D.reads disk))) }
         ensures kept { IsTrue (D.tells disk) → IfOk result (λ kernel. (file : List ℕ) → D.images kernel.disk (D.moment kernel.disk) file → KeepsKind (D.reads disk) file) }
+        ensures begins { IsTrue (D.tells disk) → IfOk result (λ kernel. (file : List ℕ) → D.images kernel.disk (D.moment kernel.disk) file → BeginsAs (D.reads disk) file) }
         ensures later { MatchResult result (λ kernel. D.faults disk ≤ D.faults kernel.disk) (λ e. D.faults disk ≤ D.faults e.0) }
         ensures fault { IfErr result (λ e. e.1 ≡ StartError.DiskFault → Rose (D.faults disk) (D.faults e.0)) }
         ensures tells { MatchResult result (λ kernel. D.tells kernel.disk ≡ D.tells disk) (λ e. D.tells e.0 ≡ D.tells disk) }
@@ -114,8 +116,8 @@ impl<D: Disk> Kernel<D> {
     /// The answer is the first, in their order, whose condition holds, and the kernel is changed by it as `Answers`
     /// says; after `Memory` nothing has changed. Over a disk that tells its bytes, at every moment of the call a stop
     /// leaves a file that is recovered to all commits that have their places, or, where the gate of the batch in flight
-    /// may be written, to these and the whole batch; and that file keeps the kind of one that a stop before the call
-    /// might have left. `DiskFault` comes of a flush alone, and only where the disk's count of faults rose. Only a
+    /// may be written, to these and the whole batch; and that file keeps the kind and the header of one that a stop
+    /// before the call might have left. `DiskFault` comes of a flush alone, and only where the disk's count of faults rose. Only a
     /// flush calls the disk, and once at most. `Memory` never comes of a rollback, of a commit that has nothing to
     /// queue, or of a flush over a disk that takes no memory.
     ///

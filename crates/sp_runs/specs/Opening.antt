@@ -8,6 +8,7 @@ use Rattle.sp_node.specs.declared.node.Shape.{Shape}
 use Rattle.sp_journal.specs.declared.types.Recovered.{Recovered}
 use Rattle.sp_journal.specs.declared.types.JournalError.{JournalError}
 use Rattle.sp_journal.specs.declared.types.JournalError.TheVariants.{Foreign as SaysForeign, Damaged as SaysDamaged, Worn as SaysWorn, Fault as SaysFault, Memory as NoMemory}
+use Rattle.sp_journal.specs.Kinds.{HasVersion}
 use Rattle.sp_journal.specs.Recovery.{Holds, Foreign as HoldsForeign, Damaged as HoldsDamage}
 use Rattle.sp_pair.specs.Pairs.{RecoversPair}
 use Rattle.sp_text.specs.declared.types.Item.{Item}
@@ -37,7 +38,7 @@ pub record RunsFrom (language : Language) (shape : Shape) (records : List Record
 abbrev pub RunsInMemory : Language → Shape → End → List Item → History → Type 0
 RunsInMemory language shape end items audit = RunsFrom language shape [] end items audit ⊎ ((end ≡ Memory) × IsNotRun items audit)
 
--- Of two files, by their roles, the current one is what a run left of the first, and the other is as it was when the run began. Then the current one held what the kernel had that was started; at each moment since a stop left of it what a kernel on the way has; and what is there now holds all commits of the last one. The same is so of the two together.
+-- Of two files, by their roles, the current one is what a run left of the first, and the other is as it was when the run began. Then the current one held what the kernel had that was started; at each moment since a stop left of it what a kernel on the way has; and what is there now holds all commits of the last one. The same is so of the two together. And what is there now begins with a header of version 2, also where it has no commit.
 pub record IsKept {D : Type 0} (reads : D → List ℕ) (moment : D → ℕ) (images : D → ℕ → List ℕ → Type 0) (language : Language) (k n : Kernel) (main alt : List ℕ) (now_main now_alt : D) : Type 0 where
   pub is_alt : Bool
   pub first : D
@@ -49,6 +50,7 @@ pub record IsKept {D : Type 0} (reads : D → List ℕ) (moment : D → ℕ) (im
   pub since : LeavesOnly (moment first) (moment current) (images first) (images current) (IsLeftIn language k n)
   pub now : (file : List ℕ) → images current (moment current) file → HoldsOrMore n file
   pub pair : PairIsKept reads moment images k n main alt is_alt first current other
+  pub header : (file : List ℕ) → images current (moment current) file → HasVersion 2 file
 
 -- A run from the kernel that opening gives over the records that two files hold, which is sound; the records are kept while it runs.
 pub record RunsOver {D : Type 0} (reads : D → List ℕ) (moment : D → ℕ) (images : D → ℕ → List ℕ → Type 0) (language : Language) (shape : Shape) (main alt : List ℕ) (end : End) (items : List Item) (audit : History) (now_main now_alt : D) : Type 0 where

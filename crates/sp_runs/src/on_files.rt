@@ -6,6 +6,7 @@ ghost use Rattle.sp_rect.specs.Serial.{Serial};
 ghost use Rattle.sp_rect.specs.declared.record.Record.{Record as AnyRecord};
 ghost use Rattle.sp_node.specs.Table.{IsShape};
 ghost use Rattle.sp_node.specs.declared.node.Shape.{Shape as AnyShape};
+ghost use Rattle.sp_journal.specs.Kinds.{HasVersion};
 ghost use Rattle.sp_text.specs.Texts.{render};
 ghost use Rattle.sp_lines.specs.Hearing.{EndsRun};
 ghost use Rattle.sp_lines.specs.Reading.{ReadsTo};
@@ -44,7 +45,8 @@ pub struct RanOnFiles<D: Disk> {
 
 /// Runs the script that the source gives over a kernel that opens with the records of the journal of that name, and keeps its commits there.
 /// From the first syncs of the opening on, to the end of the run, whichever two files a stop leaves hold what some kernel on the way has committed,
-/// without or with its whole batch in flight; at the end they hold every commit that was told.
+/// without or with its whole batch in flight; at the end they hold every commit that was told, and the current one
+/// begins with a header of version 2.
 ///
 /// `Foreign` and `Damaged` come exactly where the two files are so, `DiskFault` only where the count of the shelf or of one of the two disks rose;
 /// then, and where there is no memory for the kernel, nothing is heard where no kernel was started.
@@ -122,7 +124,7 @@ fn run_store<D: Disk, S: Source, K: Sink>(
     source: &mut S,
     sink: &mut K,
 ) -> (Ran, Pair<D>)
-    ensures over { IsTrue (D.tells store.kernel.disk) → (main alt : D) (shape : AnyShape) → IsOpenedOver (D.reads main) (D.reads alt) shape store.kernel.kernel → IsBeside store.is_alt (D.reads store.other) (D.images store.kernel.disk (D.moment store.kernel.disk)) (D.images store.other (D.moment store.other)) → SinceOpened D.reads D.moment D.images main alt store.is_alt store.kernel.disk store.other → RunsOver D.reads D.moment D.images language shape (D.reads main) (D.reads alt) result.0.transcript.end result.0.transcript.items result.0.audit result.1.main result.1.alt }
+    ensures over { IsTrue (D.tells store.kernel.disk) → (main alt : D) (shape : AnyShape) → IsOpenedOver (D.reads main) (D.reads alt) shape store.kernel.kernel → IsBeside store.is_alt (D.reads store.other) (D.images store.kernel.disk (D.moment store.kernel.disk)) (D.images store.other (D.moment store.other)) → SinceOpened D.reads D.moment D.images main alt store.is_alt store.kernel.disk store.other → ((file : List ℕ) → D.images store.kernel.disk (D.moment store.kernel.disk) file → HasVersion 2 file) → RunsOver D.reads D.moment D.images language shape (D.reads main) (D.reads alt) result.0.transcript.end result.0.transcript.items result.0.audit result.1.main result.1.alt }
     ensures runs { (shape : AnyShape) (records : List AnyRecord) → IsOpened shape records store.kernel.kernel → RunsFrom language shape records result.0.transcript.end result.0.transcript.items result.0.audit }
     ensures serial { Serial result.0.audit.base result.0.audit.commits }
     ensures read { ReadsTo (form_of language) result.0.transcript.end (S.left source.old) (S.left source.new) result.0.transcript.items }

@@ -40,7 +40,7 @@ pub fn run<D: Disk, S: Source, K: Sink>(
     // The audit's line is that of each audit which is the kernel's.
     ensures written { (audit : History) → IsAuditOf kernel.new.kernel audit → Writes result.end (K.taken sink.old) (K.taken sink.new) (K.write_faults sink.old) (K.write_faults sink.new) (render (form_of language) result.items) (audit_line audited audit) }
     ensures runs { kernel.old.kernel.sessions ≡ [] → Runs language kernel.old.kernel result.end result.items kernel.new.kernel }
-    // A stop at any moment leaves a file that is recovered as a kernel on the way has it, and that keeps the kind of one that a stop before the run
+    // A stop at any moment leaves a file that is recovered as a kernel on the way has it, and that keeps the kind and the header of one that a stop before the run
     // might have left.
     ensures crash { IsTrue (D.tells kernel.old.disk) → LeavesOnly (D.moment kernel.old.disk) (D.moment kernel.new.disk) (D.images kernel.old.disk) (D.images kernel.new.disk) (IsLeftIn language kernel.old.kernel kernel.new.kernel) }
     ensures kinds { IsTrue (D.tells kernel.old.disk) → LeavesOnly (D.moment kernel.old.disk) (D.moment kernel.new.disk) (D.images kernel.old.disk) (D.images kernel.new.disk) (KeepsOneOf (D.images kernel.old.disk (D.moment kernel.old.disk))) }

@@ -1,3 +1,4 @@
 pub mod Coming
 pub mod Keeping
 pub mod Stopping
+pub mod Versions

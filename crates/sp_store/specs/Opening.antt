@@ -1,5 +1,5 @@
 -- A kernel that was started over the two files of a journal.
-use Rattle.std.specs.Prelude.{◌≡◌, ◌≤◌, ℕ, Bool, List, if◌then◌else◌}
+use Rattle.std.specs.Prelude.{◌≡◌, ◌≢◌, ◌≤◌, ℕ, Bool, List, if◌then◌else◌}
 use Rattle.sp_node.specs.declared.node.Shape.{Shape}
 use Rattle.sp_journal.specs.declared.types.Recovered.{Recovered}
 use Rattle.sp_journal.specs.Recovery.{Foreign, Damaged, Holds}
@@ -27,3 +27,7 @@ RolesComeFrom b c o b' c' o' = ComeFrom (first_of b c o) (second_of b c o) (firs
 -- the first of the two is the current one
 abbrev pub IsCurrent : Bool → List ℕ → List ℕ → Type 0
 IsCurrent b c o = (version generation : ℕ) × IsChosen (first_of b c o) (second_of b c o) b version generation
+
+-- the first of the two is the current one, and not of version 1
+abbrev pub IsRenewed : Bool → List ℕ → List ℕ → Type 0
+IsRenewed b c o = (version generation : ℕ) × IsChosen (first_of b c o) (second_of b c o) b version generation × (version ≢ 1)

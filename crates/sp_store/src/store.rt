@@ -3,10 +3,11 @@ ghost use Rattle.std.specs.Prelude.{◌≡◌, ◌⊎◌, ℕ, List, IsTrue, IfO
 ghost use Rattle.sp_disk.specs.Faults.{Rose};
 ghost use Rattle.sp_rect.specs.declared.record.Record.{Record as AnyRecord};
 ghost use Rattle.sp_node.specs.Table.{IsShape};
+ghost use Rattle.sp_journal.specs.Kinds.{HasVersion};
 ghost use Rattle.sp_pair.specs.Compacting.{IsAtRest, first_of, second_of};
 ghost use Rattle.sp_pair.specs.Pairs.{IsChosen, RefusedPair};
 ghost use Rattle.sp_model.specs.Opening.{IsOpened};
-ghost use Rattle.sp_store.specs.Opening.{IsOpenedOver, ComeFrom, RolesComeFrom, IsCurrent};
+ghost use Rattle.sp_store.specs.Opening.{IsOpenedOver, ComeFrom, RolesComeFrom, IsCurrent, IsRenewed};
 ghost use Rattle.sp_store.specs.Files.{main_of, alt_of, Follows, told_as};
 ghost use Rattle.sp_store.specs.Keeping.{IsBeside};
 ghost use Rattle.sp_store.specs.Stopping.{IsTurned, SinceChosen, SinceOpened};
@@ -86,6 +87,7 @@ fn renew<D: Disk>(alloc: Global, chosen: Chosen<D>) -> Result<Chosen<D>, (Chosen
     ensures crash { IfOk result (λ c. ((c.is_alt ≡ chosen.is_alt) × (c.current ≡ chosen.current) × (c.other ≡ chosen.other)) ⊎ IsTurned D.tells D.reads D.moment D.images chosen.is_alt chosen.generation chosen.current chosen.other c.is_alt c.current c.other) }
     ensures refused { IsTrue (D.tells chosen.current) → IsTrue (D.tells chosen.other) → IsAtRest chosen.is_alt chosen.generation (D.reads chosen.current) (D.reads chosen.other) (D.images chosen.current (D.moment chosen.current)) (D.images chosen.other (D.moment chosen.other)) → IsChosen (first_of chosen.is_alt (D.reads chosen.current) (D.reads chosen.other)) (second_of chosen.is_alt (D.reads chosen.current) (D.reads chosen.other)) chosen.is_alt chosen.version chosen.generation → IfErr result (λ e. RefusedPair e.1 (first_of chosen.is_alt (D.reads chosen.current) (D.reads chosen.other)) (second_of chosen.is_alt (D.reads chosen.current) (D.reads chosen.other))) }
     ensures renewed { IfOk result (λ c. c.version ≡ 1 → c.generation ≡ 0 → ⊥) }
+    ensures version { IsTrue (D.tells chosen.current) → IsTrue (D.tells chosen.other) → IsAtRest chosen.is_alt chosen.generation (D.reads chosen.current) (D.reads chosen.other) (D.images chosen.current (D.moment chosen.current)) (D.images chosen.other (D.moment chosen.other)) → IsChosen (first_of chosen.is_alt (D.reads chosen.current) (D.reads chosen.other)) (second_of chosen.is_alt (D.reads chosen.current) (D.reads chosen.other)) chosen.is_alt chosen.version chosen.generation → IfOk result (λ c. IsRenewed c.is_alt (D.reads c.current) (D.reads c.other)) }
     ensures unworn { IfErr result (λ e. e.1 ≡ JournalError.Worn → ⊥) }
     ensures main_same { MatchResult result (λ c. Follows D.tells D.faults (main_of chosen.is_alt chosen.current chosen.other) (main_of c.is_alt c.current c.other)) (λ e. Follows D.tells D.faults (main_of chosen.is_alt chosen.current chosen.other) (main_of e.0.is_alt e.0.current e.0.other)) }
     ensures alt_same { MatchResult result (λ c. Follows D.tells D.faults (alt_of chosen.is_alt chosen.current chosen.other) (alt_of c.is_alt c.current c.other)) (λ e. Follows D.tells D.faults (alt_of chosen.is_alt chosen.current chosen.other) (alt_of e.0.is_alt e.0.current e.0.other)) }
@@ -111,6 +113,7 @@ fn choose_renewed<D: Disk>(
     ensures crash { IsTrue (D.tells pair.main) → IsTrue (D.tells pair.alt) → IfOk result (λ c. SinceChosen D.reads D.moment D.images pair.main pair.alt c.is_alt c.current c.other) }
     ensures refused { IsTrue (D.tells pair.main) → IsTrue (D.tells pair.alt) → IfErr result (λ e. RefusedPair e.1 (D.reads pair.main) (D.reads pair.alt)) }
     ensures renewed { IfOk result (λ c. c.version ≡ 1 → c.generation ≡ 0 → ⊥) }
+    ensures version { IsTrue (D.tells pair.main) → IsTrue (D.tells pair.alt) → IfOk result (λ c. IsRenewed c.is_alt (D.reads c.current) (D.reads c.other)) }
     ensures unworn { IfErr result (λ e. e.1 ≡ JournalError.Worn → ⊥) }
     ensures main_same { MatchResult result (λ c. Follows D.tells D.faults pair.main (main_of c.is_alt c.current c.other)) (λ e. Follows D.tells D.faults pair.main e.0.main) }
     ensures alt_same { MatchResult result (λ c. Follows D.tells D.faults pair.alt (alt_of c.is_alt c.current c.other)) (λ e. Follows D.tells D.faults pair.alt e.0.alt) }
@@ -134,6 +137,7 @@ fn start_over<D: Disk>(
     ensures over { IsTrue (D.tells chosen.current) → IsCurrent chosen.is_alt (D.reads chosen.current) (D.reads chosen.other) → IfOk result (λ store. IsOpenedOver (first_of chosen.is_alt (D.reads chosen.current) (D.reads chosen.other)) (second_of chosen.is_alt (D.reads chosen.current) (D.reads chosen.other)) shape store.kernel.kernel) }
     ensures beside { IsTrue (D.tells chosen.current) → IsCurrent chosen.is_alt (D.reads chosen.current) (D.reads chosen.other) → ((file : List ℕ) → D.images chosen.other (D.moment chosen.other) file → file ≡ D.reads chosen.other) → IfOk result (λ store. IsBeside store.is_alt (D.reads store.other) (D.images store.kernel.disk (D.moment store.kernel.disk)) (D.images store.other (D.moment store.other))) }
     ensures crash { (main alt : D) → IsTrue (D.tells chosen.current) → IsCurrent chosen.is_alt (D.reads chosen.current) (D.reads chosen.other) → SinceChosen D.reads D.moment D.images main alt chosen.is_alt chosen.current chosen.other → IfOk result (λ s. SinceOpened D.reads D.moment D.images main alt s.is_alt s.kernel.disk s.other) }
+    ensures version { IsTrue (D.tells chosen.current) → IsRenewed chosen.is_alt (D.reads chosen.current) (D.reads chosen.other) → IfOk result (λ store. (file : List ℕ) → D.images store.kernel.disk (D.moment store.kernel.disk) file → HasVersion 2 file) }
     ensures refused { IsTrue (D.tells chosen.current) → IsCurrent chosen.is_alt (D.reads chosen.current) (D.reads chosen.other) → IfErr result (λ e. RefusedPair e.1 (first_of chosen.is_alt (D.reads chosen.current) (D.reads chosen.other)) (second_of chosen.is_alt (D.reads chosen.current) (D.reads chosen.other))) }
     ensures unworn { IfErr result (λ e. e.1 ≡ JournalError.Worn → ⊥) }
     ensures main_same { MatchResult result (λ s. Follows D.tells D.faults (main_of chosen.is_alt chosen.current chosen.other) (main_of s.is_alt s.kernel.disk s.other)) (λ e. Follows D.tells D.faults (main_of chosen.is_alt chosen.current chosen.other) e.0.main) }
@@ -166,7 +170,8 @@ fn start_over<D: Disk>(
 ///
 /// Then the kernel's file is the current one beside the other as it reads, with nothing pending on that: so whatever a
 /// stop leaves while the kernel runs, the two files hold what the kernel's one does
-/// ([`two_files_hold_what_the_current_one_does`](crate::two_files_hold_what_the_current_one_does)).
+/// ([`two_files_hold_what_the_current_one_does`](crate::two_files_hold_what_the_current_one_does)). Whatever a stop leaves
+/// of the kernel's file begins with a valid header of version 2, also where it has no commit.
 pub fn open_store<D: Disk>(
     alloc: Global,
     pair: Pair<D>,
@@ -176,6 +181,7 @@ pub fn open_store<D: Disk>(
     ensures opened { IfOk result (λ store. (records : List AnyRecord) × IsOpened shape records store.kernel.kernel) }
     ensures over { IsTrue (D.tells pair.main) → IsTrue (D.tells pair.alt) → IfOk result (λ store. IsOpenedOver (D.reads pair.main) (D.reads pair.alt) shape store.kernel.kernel) }
     ensures beside { IsTrue (D.tells pair.main) → IsTrue (D.tells pair.alt) → IfOk result (λ store. IsBeside store.is_alt (D.reads store.other) (D.images store.kernel.disk (D.moment store.kernel.disk)) (D.images store.other (D.moment store.other))) }
+    ensures version { IsTrue (D.tells pair.main) → IsTrue (D.tells pair.alt) → IfOk result (λ store. (file : List ℕ) → D.images store.kernel.disk (D.moment store.kernel.disk) file → HasVersion 2 file) }
     ensures crash { IsTrue (D.tells pair.main) → IsTrue (D.tells pair.alt) → IfOk result (λ store. SinceOpened D.reads D.moment D.images pair.main pair.alt store.is_alt store.kernel.disk store.other) }
     ensures refused { IsTrue (D.tells pair.main) → IsTrue (D.tells pair.alt) → IfErr result (λ e. RefusedPair e.1 (D.reads pair.main) (D.reads pair.alt)) }
     ensures unworn { IfErr result (λ e. e.1 ≡ JournalError.Worn → ⊥) }

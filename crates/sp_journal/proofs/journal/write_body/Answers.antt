@@ -35,14 +35,14 @@ returns-in-Err-Fault-clause-stands g c = λ ledger told stands.
 pub returns-in-Ok-clause-kinds : goal.returns-in-Ok-clause-kinds
 returns-in-Ok-clause-kinds g c = λ ledger told stands.
     call_keeps (g.D.Disk.moment c.args.disk.now) (g.D.Disk.moment c.write_at.new.self) (g.D.Disk.images c.args.disk.now) (g.D.Disk.images c.write_at.new.self) c.write_at.ensures.time
-    (λ file left. let t = c.write_at.ensures.at_most told file left in record { was = t.0; left = t.1; keeps = body_keeps (g.D.Disk.reads c.args.disk.now) (g.D.Disk.images c.args.disk.now (g.D.Disk.moment c.args.disk.now)) c.args.work.now ledger stands c.requires.phase (length c.args.work.now.queued.items) t.0 file t.1 (subst (λ (n : ℕ). Torn (c.args.work.now.end + 1) n t.0 file) (ap length c.as_slice.ensures.value) t.2) })
+    (λ file left. let t = c.write_at.ensures.at_most told file left in body_keeps (g.D.Disk.reads c.args.disk.now) (g.D.Disk.images c.args.disk.now (g.D.Disk.moment c.args.disk.now)) c.args.work.now ledger stands c.requires.phase (length c.args.work.now.queued.items) t.0 file t.1 (subst (λ (n : ℕ). Torn (c.args.work.now.end + 1) n t.0 file) (ap length c.as_slice.ensures.value) t.2))
 
 pub returns-in-Err-Fault-clause-kinds : goal.returns-in-Err-Fault-clause-kinds
 returns-in-Err-Fault-clause-kinds g c = λ ledger told stands.
     call_keeps (g.D.Disk.moment c.args.disk.now) (g.D.Disk.moment c.write_at.new.self) (g.D.Disk.images c.args.disk.now) (g.D.Disk.images c.write_at.new.self) c.write_at.ensures.time
-    (λ file left. let t = c.write_at.ensures.at_most told file left in record { was = t.0; left = t.1; keeps = body_keeps (g.D.Disk.reads c.args.disk.now) (g.D.Disk.images c.args.disk.now (g.D.Disk.moment c.args.disk.now)) c.args.work.now ledger stands c.requires.phase (length c.args.work.now.queued.items) t.0 file t.1 (subst (λ (n : ℕ). Torn (c.args.work.now.end + 1) n t.0 file) (ap length c.as_slice.ensures.value) t.2) })
+    (λ file left. let t = c.write_at.ensures.at_most told file left in body_keeps (g.D.Disk.reads c.args.disk.now) (g.D.Disk.images c.args.disk.now (g.D.Disk.moment c.args.disk.now)) c.args.work.now ledger stands c.requires.phase (length c.args.work.now.queued.items) t.0 file t.1 (subst (λ (n : ℕ). Torn (c.args.work.now.end + 1) n t.0 file) (ap length c.as_slice.ensures.value) t.2))
 
 pub returns-in-Err-Memory-clause-kinds : goal.returns-in-Err-Memory-clause-kinds
 returns-in-Err-Memory-clause-kinds g c = λ ledger told stands.
     call_keeps (g.D.Disk.moment c.args.disk.now) (g.D.Disk.moment c.write_at.new.self) (g.D.Disk.images c.args.disk.now) (g.D.Disk.images c.write_at.new.self) c.write_at.ensures.time
-    (λ file left. let t = c.write_at.ensures.at_most told file left in record { was = t.0; left = t.1; keeps = body_keeps (g.D.Disk.reads c.args.disk.now) (g.D.Disk.images c.args.disk.now (g.D.Disk.moment c.args.disk.now)) c.args.work.now ledger stands c.requires.phase (length c.args.work.now.queued.items) t.0 file t.1 (subst (λ (n : ℕ). Torn (c.args.work.now.end + 1) n t.0 file) (ap length c.as_slice.ensures.value) t.2) })
+    (λ file left. let t = c.write_at.ensures.at_most told file left in body_keeps (g.D.Disk.reads c.args.disk.now) (g.D.Disk.images c.args.disk.now (g.D.Disk.moment c.args.disk.now)) c.args.work.now ledger stands c.requires.phase (length c.args.work.now.queued.items) t.0 file t.1 (subst (λ (n : ℕ). Torn (c.args.work.now.end + 1) n t.0 file) (ap length c.as_slice.ensures.value) t.2))

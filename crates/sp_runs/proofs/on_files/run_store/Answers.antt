@@ -1,11 +1,12 @@
 use Rattle.std.proofs.Common.{Bool, IsTrue, refl, sym, subst}
+use Rattle.sp_journal.proofs.Kinding.{run_keeps_version}
 use Rattle.sp_pair.specs.Compacting.{first_of, second_of}
 use Rattle.sp_runs.proofs.Holding.{since_pair, now_pair, opening_pair}
 use Rattle.sp_runs.proofs.Roles.{faulted}
 use Rattle.sp_runs.proofs.on_files.run_store.Goals as goal
 
 pub returns-clause-over : goal.returns-clause-over
-returns-clause-over g c = λ told main alt shape opened beside opening.
+returns-clause-over g c = λ told main alt shape opened beside opening version.
     let R = g.D.Disk.reads in
     let M = g.D.Disk.moment in
     let I = g.D.Disk.images in
@@ -48,6 +49,7 @@ returns-clause-over g c = λ told main alt shape opened beside opening.
           now = λ j file file' low' high' left left'.
               now_pair b (R other) (M start.disk) (M last.disk) (I start.disk) (I last.disk) (I other (M other)) beside kinds last.kernel file file' since.later left (opening.other_only j file' low' high' left') (now file left);
         };
+        header = run_keeps_version 2 (M start.disk) (M last.disk) (I start.disk) (I last.disk) kinds version;
       };
     }
 

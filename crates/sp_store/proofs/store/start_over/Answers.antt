@@ -2,6 +2,7 @@ use Rattle.sp_journal.specs.Recovery.{Holds}
 use Rattle.sp_pair.proofs.Roles.{to_roles}
 use Rattle.sp_store.proofs.Coming.{refused_over}
 use Rattle.sp_store.proofs.Stopping.{since_started}
+use Rattle.sp_store.proofs.Versions.{begins_renewed}
 use Rattle.sp_store.proofs.store.start_over.Goals as goal
 
 pub returns-in-Ok-clause-over : goal.returns-in-Ok-clause-over
@@ -35,3 +36,8 @@ returns-in-Ok-clause-crash g c = λ main alt told current since.
     let was = c.args.chosen in
     let law = g.met.D.Disk g.world.𝓛 g.world.𝓜 g.world.𝓡 ((λ s x. x), (λ x. x), (λ x. x), λ x. x) in
     since_started D.reads D.moment D.images main alt was.is_alt current.0 current.1 was.current was.other c.in-Ok.kernel.disk since current.2 (law.as_it_reads was.current told) (c.in-Ok.ensures.kinds told) (c.in-Ok.ensures.crash told)
+
+pub returns-in-Ok-clause-version : goal.returns-in-Ok-clause-version
+returns-in-Ok-clause-version g c = λ told renewed file left.
+    let was = c.args.chosen in
+    begins_renewed was.is_alt (g.D.Disk.reads was.current) (g.D.Disk.reads was.other) file renewed (c.in-Ok.ensures.begins told file left)
