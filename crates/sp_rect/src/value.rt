@@ -3,7 +3,6 @@ ghost use Rattle.std.specs.Prelude.{◌≡◌, IfOk, IsErrOf, true, false};
 ghost use Rattle.sp_rect.specs.Value.{is_printing, is_value};
 ghost use Rattle.std.specs.List.{list_all};
 
-use smallvec::SmallVec;
 use sp_list::Duplicate;
 use std::alloc::{AllocError, Global};
 use std::marker::Model;
@@ -17,13 +16,10 @@ pub enum ValueError {
     Memory,
 }
 
-// How many bytes stand in the value itself: most values are short, and take no memory of their own.
-const INLINE: usize = 24;
-
 /// A record's text: 1 to 64 bytes, each a printing ASCII character and no space (0x21 to 0x7E).
 #[derive(Drop)]
 pub struct Value {
-    bytes: SmallVec<u8, INLINE>,
+    bytes: Vec<u8>,
 }
 
 impl Model for Value {
@@ -48,7 +44,7 @@ impl Value {
         if !is_value(bytes) {
             return Err(ValueError::Bad);
         }
-        match SmallVec::from_slice(alloc, bytes) {
+        match Vec::from_slice(alloc, bytes) {
             Ok(bytes) => Ok(Value { bytes }),
             Err(_) => Err(ValueError::Memory),
         }
@@ -65,7 +61,7 @@ impl Value {
 
 impl Duplicate for Value {
     fn copy(&self, alloc: Global) -> Result<Value, AllocError> {
-        let bytes = SmallVec::from_slice(alloc, self.bytes.as_slice())?;
+        let bytes = Vec::from_slice(alloc, self.bytes.as_slice())?;
         Ok(Value { bytes })
     }
 }
