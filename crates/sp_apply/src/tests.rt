@@ -17,7 +17,7 @@ fn entry(alloc: Global, number: u64, x: u8) -> Result<Entry, &'static str>
 {
     let left = i64::from(x);
     let rect = Rect::new(left, 0, left + 2, 2).map_err(|_| "no rectangle")?;
-    let value = Value::new(alloc, b"v").map_err(|_| "no value")?;
+    let value = Value::new(b"v").map_err(|_| "no value")?;
     let marks = Marks {
         made: Made::By(7),
         ended: Ended::Nobody,

@@ -53,12 +53,12 @@ fn one_commit_and_one_deadlock(rt: HostRuntime) -> Result<(), Fail> {
     Ok(())
 }
 
-fn value(alloc: Global, text: &str) -> Result<Value, &'static str> {
-    Value::new(alloc, text.as_bytes()).map_err(|_| "no value")
+fn value(text: &str) -> Result<Value, &'static str> {
+    Value::new(text.as_bytes()).map_err(|_| "no value")
 }
 
 fn record(alloc: Global, id: u64, rect: Rect, text: &str) -> Result<Record, &'static str> {
-    let value = value(alloc, text)?;
+    let value = value(text)?;
     Ok(Record { id, rect, value })
 }
 
@@ -88,11 +88,11 @@ fn operations(rt: HostRuntime) -> Result<(), Fail> {
             "[\"put\",18446744073709551615,-1,0,2,30,\"a\\\"\\\\\"]",
         ),
         (Op::Drop(7), "[\"drop\",7]"),
-        (Op::Set(0, value(alloc, "{~}")?), "[\"set\",0,\"{~}\"]"),
+        (Op::Set(0, value("{~}")?), "[\"set\",0,\"{~}\"]"),
         (Op::Get(1), "[\"get\",1]"),
         (Op::Find(rect), "[\"find\",-1,0,2,30]"),
         (
-            Op::Fill(rect, value(alloc, "sold")?),
+            Op::Fill(rect, value("sold")?),
             "[\"fill\",-1,0,2,30,\"sold\"]",
         ),
         (Op::Clear(rect), "[\"clear\",-1,0,2,30]"),

@@ -94,7 +94,7 @@ fn insert(alloc: Global, tree: &mut Tree, number: u64, rect: Rect) -> Result<(),
     if tree.leaf_of(number).is_some() || tree.next() >= MOST_NODES {
         return Ok(());
     }
-    let Ok(value) = Value::new(alloc, b"parcel") else {
+    let Ok(value) = Value::new(b"parcel") else {
         return Err(AllocError);
     };
     let entry = Entry {

@@ -16,7 +16,7 @@ fn puts(alloc: Global, first: u64, count: u16) -> Result<Changes, Stop>
 {
     let mut changes = Changes::new(alloc);
     for i in 0..count.max(1) {
-        let (Ok(rect), Ok(value)) = (Rect::new(0, 0, 9, 9), Value::new(alloc, b"parcel")) else {
+        let (Ok(rect), Ok(value)) = (Rect::new(0, 0, 9, 9), Value::new(b"parcel")) else {
             return Err(Stop::Memory);
         };
         let id = first.saturating_add(u64::from(i));

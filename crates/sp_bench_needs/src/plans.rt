@@ -110,7 +110,7 @@ fn commit_count(
 ) -> Result<u64, AllocError>
     requires { IsMadeOf tree.now.table plan.now }
 {
-    let Ok(value) = Value::new(alloc, b"parcel") else {
+    let Ok(value) = Value::new(b"parcel") else {
         return Err(AllocError);
     };
     let op = Op::Put(Record {
@@ -131,7 +131,7 @@ fn plan_of(alloc: Global, tree: &Tree, number: u64, rect: Rect) -> Result<Plan, 
     if tree.leaf_of(number).is_some() || tree.next() >= MOST_NODES {
         return Err(AllocError);
     }
-    let Ok(value) = Value::new(alloc, b"parcel") else {
+    let Ok(value) = Value::new(b"parcel") else {
         return Err(AllocError);
     };
     let entry = Entry {

@@ -36,8 +36,8 @@ enum Act {
     Clear(Corners),
 }
 
-fn value_of(alloc: Global) -> Result<Value, Fail> {
-    match Value::new(alloc, b"parcel") {
+fn value_of() -> Result<Value, Fail> {
+    match Value::new(b"parcel") {
         Ok(value) => Ok(value),
         Err(_) => Err(Fail::from("no value")),
     }
@@ -46,10 +46,10 @@ fn value_of(alloc: Global) -> Result<Value, Fail> {
 fn op_of(alloc: Global, act: &Act) -> Result<Op, Fail> {
     match act {
         Act::Drop(id) => Ok(Op::Drop(*id)),
-        Act::Set(id) => Ok(Op::Set(*id, value_of(alloc)?)),
+        Act::Set(id) => Ok(Op::Set(*id, value_of()?)),
         Act::Get(id) => Ok(Op::Get(*id)),
         Act::Find(corners) => Ok(Op::Find(rect_of(*corners)?)),
-        Act::Fill(corners) => Ok(Op::Fill(rect_of(*corners)?, value_of(alloc)?)),
+        Act::Fill(corners) => Ok(Op::Fill(rect_of(*corners)?, value_of()?)),
         Act::Clear(corners) => Ok(Op::Clear(rect_of(*corners)?)),
     }
 }
@@ -268,7 +268,7 @@ fn put_needs(alloc: Global, case: &Put) -> Result<Needs, Fail> {
     let put = Op::Put(Record {
         id: 9,
         rect,
-        value: value_of(alloc)?,
+        value: value_of()?,
     });
     Ok(commit_needs(alloc, &tree, Some(&plan), &put, 7, &searches)?)
 }

@@ -40,7 +40,7 @@ fn mark(
     ended: Ended,
     drafted: u64,
 ) -> Result<(), Fail> {
-    let draft = match (drafted, Value::new(alloc, b"draft")) {
+    let draft = match (drafted, Value::new(b"draft")) {
         (0, _) => Draft::None,
         (txn, Ok(value)) => Draft::Of(txn, value),
         _ => return Err(Fail::from("no value")),

@@ -14,8 +14,8 @@ const RECTS: [(i64, i64, i64, i64); 5] = [
     (4, 4, 6, 6),
 ];
 
-fn value_of(alloc: Global, text: &[u8]) -> Result<Value, Fail> {
-    match Value::new(alloc, text) {
+fn value_of(text: &[u8]) -> Result<Value, Fail> {
+    match Value::new(text) {
         Ok(value) => Ok(value),
         Err(_) => Err(Fail::from("no value")),
     }
@@ -51,18 +51,13 @@ fn run(alloc: Global, tree: &mut Tree, op: &Op, txn: u64) -> Result<(Reply, usiz
     Ok((done.reply, count))
 }
 
-// The value that the transaction reads under the id, where there is one.
-fn value_read(alloc: Global, tree: &Tree, id: u64, txn: u64) -> Result<Option<Value>, Fail> {
-    match reply_of(alloc, tree, &Op::Get(id), txn)? {
-        Reply::Rec(record) => Ok(Some(record.value)),
-        _ => Ok(None),
-    }
-}
-
+// Whether the transaction reads this value under the id.
 fn reads(alloc: Global, tree: &Tree, id: u64, txn: u64, text: &[u8]) -> Result<bool, Fail> {
-    match value_read(alloc, tree, id, txn)? {
-        Some(value) => Ok(value.bytes() == text),
-        None => Ok(false),
+    let get = Op::Get(id);
+    let reply = reply_of(alloc, tree, &get, txn)?;
+    match &reply {
+        Reply::Rec(record) => Ok(record.value.bytes() == text),
+        _ => Ok(false),
     }
 }
 
@@ -88,7 +83,7 @@ fn own_drops_and_drafts_are_seen(rt: HostRuntime) -> Result<(), Fail> {
     );
     let drop = run(alloc, &mut tree, &Op::Drop(2), 7)?;
     assert!(rt; matches!(drop.0, Reply::Done) && drop.1 == 1);
-    let set = Op::Set(1, value_of(alloc, b"draft")?);
+    let set = Op::Set(1, value_of(b"draft")?);
     let set = run(alloc, &mut tree, &set, 7)?;
     assert!(rt; matches!(set.0, Reply::Done) && set.1 == 1);
     assert_eq!(rt; ids_found(alloc, &tree, 7)?.as_slice(), [1, 5].as_slice());
@@ -126,7 +121,7 @@ fn areas_pass_over_what_is_not_seen(rt: HostRuntime) -> Result<(), Fail> {
         },
     ))?;
     apply(&mut tree, marks)?;
-    let fill = Op::Fill(rect_of((0, 0, 10, 10))?, value_of(alloc, b"fill")?);
+    let fill = Op::Fill(rect_of((0, 0, 10, 10))?, value_of(b"fill")?);
     let filled = run(alloc, &mut tree, &fill, 7)?;
     assert!(rt; matches!(filled.0, Reply::Count(1)) && filled.1 == 1);
     assert!(rt; reads(alloc, &tree, 2, 7, b"fill")?);
@@ -152,6 +147,6 @@ fn put_of(alloc: Global, id: u64) -> Result<Op, Fail> {
     Ok(Op::Put(Record {
         id,
         rect: rect_of((1, 1, 2, 2))?,
-        value: value_of(alloc, b"put")?,
+        value: value_of(b"put")?,
     }))
 }

@@ -49,7 +49,7 @@ pub fn plan_of(alloc: Global, tree: &Tree, number: u64, id: u64, rect: Rect) -> 
     if tree.leaf_of(number).is_some() || tree.next() >= MOST_NODES {
         return Err(Fail::from("no number"));
     }
-    let Ok(value) = Value::new(alloc, b"parcel") else {
+    let Ok(value) = Value::new(b"parcel") else {
         return Err(Fail::from("no value"));
     };
     let entry = Entry {

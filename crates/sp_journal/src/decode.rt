@@ -14,7 +14,7 @@ ghost use Rattle.sp_journal.specs.Reading.{Gives};
 use crate::encode::Commits;
 use byteorder::{BigEndian, ByteOrder};
 use sp_plain::{Change, Changes};
-use sp_rect::{Record, Records, Rect, Value, ValueError};
+use sp_rect::{Record, Records, Rect, Value};
 use std::alloc::{AllocError, AllocFailed, Global};
 use std::marker::Model;
 
@@ -127,15 +127,14 @@ fn coordinate(from: &mut Cursor<'_>) -> Result<i64, Unread>
     Ok(i64::from(bits.cast_signed()))
 }
 
-fn value(alloc: Global, from: &mut Cursor<'_>) -> Result<Value, Unread>
+fn value(from: &mut Cursor<'_>) -> Result<Value, Unread>
     ensures { (v rest : List ℕ) → is_value v ≡ true → from.old ≡ value_bytes v ++ rest → Gives v rest from.new result }
 {
     let len = from.u8()? as usize;
     let bytes = from.bytes(len)?;
-    match Value::new(alloc, bytes) {
+    match Value::new(bytes) {
         Ok(value) => Ok(value),
-        Err(ValueError::Bad) => Err(Unread::Bad),
-        Err(ValueError::Memory) => Err(Unread::Memory),
+        Err(_) => Err(Unread::Bad),
     }
 }
 
@@ -153,19 +152,19 @@ fn rect(from: &mut Cursor<'_>) -> Result<Rect, Unread>
 }
 
 // What stands behind the byte that says put.
-fn put(alloc: Global, from: &mut Cursor<'_>) -> Result<Record, Unread>
+fn put(from: &mut Cursor<'_>) -> Result<Record, Unread>
     ensures { (r : RecordOf) (rest : List ℕ) → IsPut r → from.old ≡ u64_bytes r.id ++ (rect_bytes r.rect ++ (value_bytes r.value ++ rest)) → Gives r rest from.new result }
 {
     let id = from.u64()?;
     let rect = rect(from)?;
-    let value = value(alloc, from)?;
+    let value = value(from)?;
     Ok(Record { id, rect, value })
 }
 
-fn put_change(alloc: Global, from: &mut Cursor<'_>) -> Result<Change, Unread>
+fn put_change(from: &mut Cursor<'_>) -> Result<Change, Unread>
     ensures { (r : RecordOf) (rest : List ℕ) → IsPut r → from.old ≡ u64_bytes r.id ++ (rect_bytes r.rect ++ (value_bytes r.value ++ rest)) → Gives (Put r) rest from.new result }
 {
-    let record = put(alloc, from)?;
+    let record = put(from)?;
     Ok(Change::Put(record))
 }
 
@@ -178,21 +177,21 @@ fn drop_change(from: &mut Cursor<'_>) -> Result<Change, Unread>
 }
 
 // What stands behind the byte that says set.
-fn set_change(alloc: Global, from: &mut Cursor<'_>) -> Result<Change, Unread>
+fn set_change(from: &mut Cursor<'_>) -> Result<Change, Unread>
     ensures { (id : ℕ) (v rest : List ℕ) → id < 2 ^ 64 → is_value v ≡ true → from.old ≡ u64_bytes id ++ (value_bytes v ++ rest) → Gives (Set id v) rest from.new result }
 {
     let id = from.u64()?;
-    let value = value(alloc, from)?;
+    let value = value(from)?;
     Ok(Change::Set(id, value))
 }
 
-fn change(alloc: Global, from: &mut Cursor<'_>) -> Result<Change, Unread>
+fn change(from: &mut Cursor<'_>) -> Result<Change, Unread>
     ensures { (c : ChangeOf) (rest : List ℕ) → IsChange c → from.old ≡ change_bytes c ++ rest → Gives c rest from.new result }
 {
     match from.u8()? {
-        1 => put_change(alloc, from),
+        1 => put_change(from),
         2 => drop_change(from),
-        3 => set_change(alloc, from),
+        3 => set_change(from),
         _ => Err(Unread::Bad),
     }
 }
@@ -203,7 +202,7 @@ fn changes(alloc: Global, from: &mut Cursor<'_>, count: u32) -> Result<Changes, 
 {
     let mut read = Changes::new(alloc);
     for i in 0..count {
-        read.push(change(alloc, from)?)?;
+        read.push(change(from)?)?;
     }
     Ok(read)
 }
@@ -236,11 +235,11 @@ pub fn batch(alloc: Global, payload: &[u8]) -> Result<Commits, Unread>
 }
 
 // A record, behind the byte that says put.
-fn record(alloc: Global, from: &mut Cursor<'_>) -> Result<Record, Unread>
+fn record(from: &mut Cursor<'_>) -> Result<Record, Unread>
     ensures { (r : RecordOf) (rest : List ℕ) → IsPut r → from.old ≡ put_bytes r ++ rest → Gives r rest from.new result }
 {
     match from.u8()? {
-        1 => put(alloc, from),
+        1 => put(from),
         _ => Err(Unread::Bad),
     }
 }
@@ -251,7 +250,7 @@ fn records(alloc: Global, from: &mut Cursor<'_>, count: u32) -> Result<Records, 
 {
     let mut read = Records::new(alloc);
     for i in 0..count {
-        read.push(record(alloc, from)?)?;
+        read.push(record(from)?)?;
     }
     Ok(read)
 }

@@ -22,10 +22,10 @@ fn rect(x1: i64, y1: i64, x2: i64, y2: i64) -> Result<Rect, &'static str>
     }
 }
 
-fn value(alloc: Global, text: &[u8]) -> Result<Value, &'static str>
+fn value(text: &[u8]) -> Result<Value, &'static str>
     ensures { IfOk result (λ v. v ≡ text.now) }
 {
-    match Value::new(alloc, text) {
+    match Value::new(text) {
         Ok(value) => Ok(value),
         Err(_) => Err("no value"),
     }
@@ -34,7 +34,7 @@ fn value(alloc: Global, text: &[u8]) -> Result<Value, &'static str>
 fn entry(alloc: Global, number: u64, rect: Rect) -> Result<Entry, &'static str>
     ensures { IfOk result (λ e. e ≡ sample_entry number rect) }
 {
-    let value = value(alloc, b"a")?;
+    let value = value(b"a")?;
     Ok(Entry {
         number,
         id: number,
@@ -228,7 +228,7 @@ fn after(
     drafted: u64,
     commits: bool,
 ) -> Result<(Made, Ended, bool, u8), &'static str> {
-    let draft = Draft::Of(drafted, value(alloc, b"b")?);
+    let draft = Draft::Of(drafted, value(b"b")?);
     let marks = Marks { made, ended, draft };
     tree.note_marks(entry, &marks).map_err(|_| "no memory")?;
     tree.mark(entry, marks);
@@ -262,7 +262,7 @@ fn marks(rt: HostRuntime) -> Result<(), Fail> {
 
 // Gives the entry a draft of the transaction.
 fn draft(alloc: Global, tree: &mut Tree, entry: u64, txn: u64) -> Result<(), &'static str> {
-    let draft = Draft::Of(txn, value(alloc, b"b")?);
+    let draft = Draft::Of(txn, value(b"b")?);
     let marks = Marks {
         made: Made::Committed,
         ended: Ended::Nobody,

@@ -11,7 +11,7 @@ use std::alloc::Global;
 use std::test::Fail;
 
 fn put(alloc: Global, plain: &mut Plain, id: u64, rect: Rect) -> Result<(), &'static str> {
-    let value = Value::new(alloc, b"v").map_err(|_| "no value")?;
+    let value = Value::new(b"v").map_err(|_| "no value")?;
     let op = Op::Put(Record { id, rect, value });
     let _reply = plain.apply(&op).map_err(|_| "no memory")?;
     Ok(())

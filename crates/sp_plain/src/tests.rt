@@ -27,8 +27,8 @@ fn rect_of(line: &Line) -> Result<Rect, &'static str> {
     Rect::new(x1, y1, x2, y2).map_err(|_| "no rectangle")
 }
 
-fn value_of(alloc: Global, line: &Line) -> Result<Value, &'static str> {
-    Value::new(alloc, line.value.as_bytes()).map_err(|_| "no value")
+fn value_of(line: &Line) -> Result<Value, &'static str> {
+    Value::new(line.value.as_bytes()).map_err(|_| "no value")
 }
 
 fn op_of(alloc: Global, line: &Line) -> Result<Op, &'static str> {
@@ -36,13 +36,13 @@ fn op_of(alloc: Global, line: &Line) -> Result<Op, &'static str> {
         "put" => Ok(Op::Put(Record {
             id: line.id,
             rect: rect_of(line)?,
-            value: value_of(alloc, line)?,
+            value: value_of(line)?,
         })),
         "drop" => Ok(Op::Drop(line.id)),
-        "set" => Ok(Op::Set(line.id, value_of(alloc, line)?)),
+        "set" => Ok(Op::Set(line.id, value_of(line)?)),
         "get" => Ok(Op::Get(line.id)),
         "find" => Ok(Op::Find(rect_of(line)?)),
-        "fill" => Ok(Op::Fill(rect_of(line)?, value_of(alloc, line)?)),
+        "fill" => Ok(Op::Fill(rect_of(line)?, value_of(line)?)),
         _ => Ok(Op::Clear(rect_of(line)?)),
     }
 }
@@ -52,10 +52,10 @@ fn change_of(alloc: Global, line: &Line) -> Result<Change, &'static str> {
         "put" => Ok(Change::Put(Record {
             id: line.id,
             rect: rect_of(line)?,
-            value: value_of(alloc, line)?,
+            value: value_of(line)?,
         })),
         "drop" => Ok(Change::Drop(line.id)),
-        _ => Ok(Change::Set(line.id, value_of(alloc, line)?)),
+        _ => Ok(Change::Set(line.id, value_of(line)?)),
     }
 }
 

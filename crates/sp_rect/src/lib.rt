@@ -15,4 +15,4 @@ pub use point::Point;
 pub use record::{Numbers, Record, Records, Records2};
 pub use rect::{BadRect, HIGHEST, LOWEST, Rect, WHOLE};
 pub use sp_list::{Duplicate, Sequence, Text};
-pub use value::{Value, ValueError};
+pub use value::{BadValue, Value};

@@ -1,25 +1,25 @@
 // Values of records.
-ghost use Rattle.std.specs.Prelude.{◌≡◌, IfOk, IsErrOf, true, false};
+ghost use Rattle.std.specs.Prelude.{◌≡◌, IfOk, OnErr, true, false};
 ghost use Rattle.sp_rect.specs.Value.{is_printing, is_value};
 ghost use Rattle.std.specs.List.{list_all};
 
+use arrayvec::ArrayVec;
 use sp_list::Duplicate;
 use std::alloc::{AllocError, Global};
 use std::marker::Model;
 
-/// Why a value could not be made.
-#[derive(Clone, Copy, Debug, PartialEq, Eq, Drop)]
-pub enum ValueError {
-    /// The bytes are no value.
-    Bad,
-    /// There was no memory.
-    Memory,
-}
+// The most bytes of a value.
+const LONGEST: usize = 64;
 
-/// A record's text: 1 to 64 bytes, each a printing ASCII character and no space (0x21 to 0x7E).
+/// What `Value::new` answers to bytes that are no value.
+#[derive(Clone, Copy, Debug, PartialEq, Eq, Drop)]
+pub struct BadValue;
+
+/// A record's text: 1 to 64 bytes, each a printing ASCII character and no space (0x21 to 0x7E). The bytes stand
+/// in the value itself, so that no value takes memory of its own.
 #[derive(Drop)]
 pub struct Value {
-    bytes: Vec<u8>,
+    bytes: ArrayVec<u8, LONGEST>,
 }
 
 impl Model for Value {
@@ -34,20 +34,16 @@ impl Model for Value {
 }
 
 impl Value {
-    /// The value of these bytes. `Bad` comes exactly where they are none.
-    pub fn new(alloc: Global, bytes: &[u8]) -> Result<Value, ValueError>
+    /// The value of these bytes. `BadValue` comes exactly where they are none.
+    pub fn new(bytes: &[u8]) -> Result<Value, BadValue>
         ensures ok { IfOk result (λ v. v ≡ bytes.now) }
         ensures fits { IfOk result (λ v. is_value bytes.now ≡ true) }
-        ensures bad { IsErrOf result ValueError.Bad → is_value bytes.now ≡ false }
-        ensures memory { IsErrOf result ValueError.Memory → is_value bytes.now ≡ true }
+        ensures bad { OnErr result (is_value bytes.now ≡ false) }
     {
         if !is_value(bytes) {
-            return Err(ValueError::Bad);
+            return Err(BadValue);
         }
-        match Vec::from_slice(alloc, bytes) {
-            Ok(bytes) => Ok(Value { bytes }),
-            Err(_) => Err(ValueError::Memory),
-        }
+        Ok(Value { bytes: kept(bytes) })
     }
 
     /// The bytes of the value.
@@ -60,9 +56,23 @@ impl Value {
 }
 
 impl Duplicate for Value {
-    fn copy(&self, alloc: Global) -> Result<Value, AllocError> {
-        let bytes = Vec::from_slice(alloc, self.bytes.as_slice())?;
-        Ok(Value { bytes })
+    fn copy(&self, _alloc: Global) -> Result<Value, AllocError> {
+        Ok(Value {
+            bytes: kept(self.bytes.as_slice()),
+        })
+    }
+}
+
+// The bytes of a value in a vector that holds the longest.
+#[tactic(auto, unfolding(crate::specs::Value::is_value))]
+fn kept(bytes: &[u8]) -> ArrayVec<u8, LONGEST>
+    requires { is_value bytes.now ≡ true }
+    ensures { result.items ≡ bytes.now }
+{
+    let mut kept = ArrayVec::new();
+    match kept.try_extend_from_slice(bytes) {
+        Ok(()) => kept,
+        Err(_) => unreachable!(),
     }
 }
 
@@ -72,7 +82,7 @@ fn is_value(bytes: &[u8]) -> bool
     ensures { result ≡ is_value bytes.now }
 {
     let len = bytes.len();
-    1 <= len && len <= 64 && all_printing(bytes)
+    1 <= len && len <= LONGEST && all_printing(bytes)
 }
 
 // Whether each byte prints and is no space.

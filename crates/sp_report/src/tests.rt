@@ -9,7 +9,7 @@ fn record(alloc: Global, id: u64, x1: i64, value: &str) -> Result<Record, Fail> 
     let Ok(rect) = Rect::new(x1, 0, 200, 3) else {
         return Err(Fail::from("no rectangle"));
     };
-    let Ok(value) = Value::new(alloc, value.as_bytes()) else {
+    let Ok(value) = Value::new(value.as_bytes()) else {
         return Err(Fail::from("no value"));
     };
     Ok(Record { id, rect, value })

@@ -206,7 +206,7 @@ impl Seat {
             self.searches.push(rect)?;
         }
         match replace(&mut self.stage, Stage::Idle) {
-            Stage::Planned(op, _) => self.ops.push_reserved(Answered { op, reply }),
+            Stage::Planned(op, _left) => self.ops.push_reserved(Answered { op, reply }),
             stage => self.stage = stage,
         }
         Ok(())

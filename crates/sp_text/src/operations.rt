@@ -4,8 +4,7 @@ ghost use Rattle.sp_text.specs.Operations.{ReadsAs, found, verbs, id_in, rectang
 
 use crate::numbers::{coordinate, number_up_to};
 use crate::{Bad, Flaw};
-use sp_rect::{Op, Record, Rect, Value, ValueError};
-use std::alloc::Global;
+use sp_rect::{Op, Record, Rect, Value};
 
 /// The word of an operation.
 #[derive(Clone, Copy, Debug, PartialEq, Eq)]
@@ -20,12 +19,12 @@ pub enum Verb {
 }
 
 // What the words spell: the operation's word and those after it.
-pub(crate) fn operation_of(alloc: Global, words: &[&[u8]]) -> Result<Op, Flaw>
+pub(crate) fn operation_of(words: &[&[u8]]) -> Result<Op, Flaw>
     ensures { ReadsAs (operation_of (map (λ w. w.now) words.now)) result }
 {
     match words {
         [word, others @ ..] => match verb_of(word) {
-            Some(verb) => spelled(alloc, verb, others),
+            Some(verb) => spelled(verb, others),
             None => Err(Flaw::Bad(Bad::Command)),
         },
         [] => Err(Flaw::Bad(Bad::Command)),
@@ -60,26 +59,26 @@ fn verb_of(word: &[u8]) -> Option<Verb>
     }
 }
 
-fn spelled(alloc: Global, verb: Verb, words: &[&[u8]]) -> Result<Op, Flaw>
+fn spelled(verb: Verb, words: &[&[u8]]) -> Result<Op, Flaw>
     ensures { ReadsAs (spelled verb (map (λ w. w.now) words.now)) result }
 {
     match verb {
-        Verb::Put => put_of(alloc, words),
+        Verb::Put => put_of(words),
         Verb::Drop => drop_of(words),
-        Verb::Set => set_of(alloc, words),
+        Verb::Set => set_of(words),
         Verb::Get => get_of(words),
         Verb::Find => find_of(words),
-        Verb::Fill => fill_of(alloc, words),
+        Verb::Fill => fill_of(words),
         Verb::Clear => clear_of(words),
     }
 }
 
 #[tactic(auto, unfolding(crate::specs::Operations::spelled))]
-fn put_of(alloc: Global, words: &[&[u8]]) -> Result<Op, Flaw>
+fn put_of(words: &[&[u8]]) -> Result<Op, Flaw>
     ensures { ReadsAs (spelled Verb.Put (map (λ w. w.now) words.now)) result }
 {
     match words {
-        [id, x1, y1, x2, y2, value] => { Ok(Op::Put(record_in(alloc, id, x1, y1, x2, y2, value)?)) }
+        [id, x1, y1, x2, y2, value] => { Ok(Op::Put(record_in(id, x1, y1, x2, y2, value)?)) }
         _ => Err(Flaw::Bad(Bad::Words)),
     }
 }
@@ -95,13 +94,13 @@ fn drop_of(words: &[&[u8]]) -> Result<Op, Flaw>
 }
 
 #[tactic(auto, unfolding(crate::specs::Operations::spelled))]
-fn set_of(alloc: Global, words: &[&[u8]]) -> Result<Op, Flaw>
+fn set_of(words: &[&[u8]]) -> Result<Op, Flaw>
     ensures { ReadsAs (spelled Verb.Set (map (λ w. w.now) words.now)) result }
 {
     match words {
         [id, value] => {
             let id = id_in(id)?;
-            let value = value_in(alloc, value)?;
+            let value = value_in(value)?;
             Ok(Op::Set(id, value))
         }
         _ => Err(Flaw::Bad(Bad::Words)),
@@ -129,13 +128,13 @@ fn find_of(words: &[&[u8]]) -> Result<Op, Flaw>
 }
 
 #[tactic(auto, unfolding(crate::specs::Operations::spelled))]
-fn fill_of(alloc: Global, words: &[&[u8]]) -> Result<Op, Flaw>
+fn fill_of(words: &[&[u8]]) -> Result<Op, Flaw>
     ensures { ReadsAs (spelled Verb.Fill (map (λ w. w.now) words.now)) result }
 {
     match words {
         [x1, y1, x2, y2, value] => {
             let rect = rectangle_in(x1, y1, x2, y2)?;
-            let value = value_in(alloc, value)?;
+            let value = value_in(value)?;
             Ok(Op::Fill(rect, value))
         }
         _ => Err(Flaw::Bad(Bad::Words)),
@@ -154,7 +153,6 @@ fn clear_of(words: &[&[u8]]) -> Result<Op, Flaw>
 
 #[tactic(auto, unfolding(crate::specs::Operations::record_in))]
 fn record_in(
-    alloc: Global,
     id: &[u8],
     x1: &[u8],
     y1: &[u8],
@@ -166,7 +164,7 @@ fn record_in(
 {
     let id = id_in(id)?;
     let rect = rectangle_in(x1, y1, x2, y2)?;
-    let value = value_in(alloc, value)?;
+    let value = value_in(value)?;
     Ok(Record { id, rect, value })
 }
 
@@ -191,12 +189,11 @@ fn rectangle_in(x1: &[u8], y1: &[u8], x2: &[u8], y2: &[u8]) -> Result<Rect, Flaw
 }
 
 #[tactic(auto, unfolding(crate::specs::Operations::value_in))]
-fn value_in(alloc: Global, word: &[u8]) -> Result<Value, Flaw>
+fn value_in(word: &[u8]) -> Result<Value, Flaw>
     ensures { ReadsAs (value_in word.now) result }
 {
-    match Value::new(alloc, word) {
+    match Value::new(word) {
         Ok(value) => Ok(value),
-        Err(ValueError::Bad) => Err(Flaw::Bad(Bad::Value)),
-        Err(ValueError::Memory) => Err(Flaw::Memory),
+        Err(_) => Err(Flaw::Bad(Bad::Value)),
     }
 }

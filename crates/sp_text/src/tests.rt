@@ -12,7 +12,7 @@ fn record(alloc: Global) -> Result<Record, Fail> {
     let Ok(rect) = Rect::new(-1, 0, 2, 2) else {
         return Err(Fail::from("no rectangle"));
     };
-    let Ok(value) = Value::new(alloc, b"a") else {
+    let Ok(value) = Value::new(b"a") else {
         return Err(Fail::from("no value"));
     };
     Ok(Record { id: 7, rect, value })

@@ -16,8 +16,8 @@ const DROP: u8 = 2;
 
 const SET: u8 = 3;
 
-fn value(alloc: Global, text: &[u8]) -> Result<Value, Fail> {
-    match Value::new(alloc, text) {
+fn value(text: &[u8]) -> Result<Value, Fail> {
+    match Value::new(text) {
         Ok(value) => Ok(value),
         Err(_) => Err(Fail::from("no value")),
     }
@@ -30,13 +30,13 @@ fn entry(alloc: Global, made: Made, ended: Ended, drafted: u64) -> Result<Entry,
     };
     let draft = match drafted {
         0 => Draft::None,
-        txn => Draft::Of(txn, value(alloc, b"b")?),
+        txn => Draft::Of(txn, value(b"b")?),
     };
     Ok(Entry {
         number: 5,
         id: 50,
         rect,
-        value: value(alloc, b"a")?,
+        value: value(b"a")?,
         marks: Marks { made, ended, draft },
     })
 }

@@ -24,7 +24,7 @@ pub fn one_put(alloc: Global, id: u64) -> Result<Changes, Fail>
     ensures { IfOk result (λ changes. length changes ≡ 1) }
 {
     let rect = Rect::new(0, 0, 0, 0)?;
-    let value = Value::new(alloc, b"x")?;
+    let value = Value::new(b"x")?;
     let mut changes = Changes::new(alloc);
     changes.push(Change::Put(Record { id, rect, value }))?;
     Ok(changes)

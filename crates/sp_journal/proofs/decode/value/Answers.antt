@@ -20,9 +20,9 @@ returns-in-Ok c = λ v rest fits is.
     let got = c.in_ok-bytes.ensures v rest (ok_same _ _ _ len.0 c.in_ok-len.was) len.1 in
     (c.in-Ok.ensures.ok ∙ got.0, got.1)
 
-pub returns-in-Err-Bad : goal.returns-in-Err-Bad
+pub returns-in-Err : goal.returns-in-Err
 unfolding value_bytes
-returns-in-Err-Bad c = λ v rest fits is.
+returns-in-Err c = λ v rest fits is.
     let len = c.u8.ensures (length v) (v ++ rest) is in
     let got = c.in_ok-bytes.ensures v rest (ok_same _ _ _ len.0 c.in_ok-len.was) len.1 in
-    bad_value v _ _ fits got.0 (c.in-Err-Bad.ensures.bad cc)
+    bad_value v _ _ fits got.0 (c.in-Err.ensures.bad)
