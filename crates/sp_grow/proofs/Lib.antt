@@ -19,3 +19,4 @@ pub mod Entered
 pub mod Inserted
 pub mod Moves
 pub mod NewEntry
+mod Wide

@@ -1,27 +1,42 @@
 // The child and the leaf that a rectangle goes to: ChooseLeaf of Guttman, with every tie settled.
 ghost use Rattle.std.specs.Prelude.{◌≡◌, ◌<◌, length, map, take, drop, ◌+◌, slice_index_or};
 ghost use Rattle.std.specs.Bool.{MatchBool};
-ghost use Rattle.sp_rect.specs.Plane.{whole};
-ghost use Rattle.sp_grow.specs.Chosen.{IsBetter, IsAsGood, IsChosen, ReachesOf};
+ghost use Rattle.sp_rect.specs.Plane.{area, growth, whole};
+ghost use Rattle.sp_grow.specs.Chosen.{IsAtMost, IsChosen, IsLess, ReachesOf};
 
 use sp_node::{Child, Node, Tree};
 use sp_rect::Rect;
 
-// Whether the one needs less growth than the other, or as much and has the smaller area.
-fn is_better(rect: &Rect, a: &Rect, b: &Rect) -> bool
-    ensures { MatchBool result (IsBetter rect.now a.now b.now) (IsAsGood rect.now b.now a.now) }
+// What a child is chosen by: the growth that the rectangle costs it, and of equal ones its area.
+#[derive(Clone, Copy)]
+struct Cost {
+    growth: i128,
+    area: i128,
+}
+
+// What the rectangle costs the child. The growth is made from the area, so that it is computed once.
+fn cost_of(child: &Child, rect: &Rect) -> Cost
+    ensures growth { result.growth ≡ growth child.now.rect rect.now }
+    ensures area { result.area ≡ area child.now.rect }
 {
-    let growth = a.growth(rect);
-    let other = b.growth(rect);
-    if growth < other {
+    let area = child.rect.area();
+    Cost {
+        growth: child.rect.bound(rect).area() - area,
+        area,
+    }
+}
+
+// Whether the one costs less than the other.
+fn is_less(a: Cost, b: Cost) -> bool
+    ensures { MatchBool result (IsLess a.growth a.area b.growth b.area) (IsAtMost b.growth b.area a.growth a.area) }
+{
+    if a.growth < b.growth {
         return true;
     }
-    if other < growth {
+    if b.growth < a.growth {
         return false;
     }
-    let area = a.area();
-    let other = b.area();
-    if area < other {
+    if a.area < b.area {
         return true;
     }
     false
@@ -34,9 +49,12 @@ pub(crate) fn choose_child(children: &[Child], rect: &Rect) -> usize
     ensures chosen { let rects = map (λ c. c.rect) children.now in IsChosen (take result rects) (slice_index_or rects result whole) (drop (result + 1) rects) rect.now }
 {
     let mut best = 0;
-    for i in 0..children.len() {
-        if is_better(rect, &children[i].rect, &children[best].rect) {
+    let mut least = cost_of(&children[0], rect);
+    for i in 1..children.len() {
+        let cost = cost_of(&children[i], rect);
+        if is_less(cost, least) {
             best = i;
+            least = cost;
         }
     }
     best

@@ -7,9 +7,9 @@ ghost use Rattle.sp_grow.specs.Members.{rects_in, pick_node, put_left};
 ghost use Rattle.sp_grow.specs.Below.{IsSettled};
 ghost use Rattle.sp_grow.specs.declared.left.Left.TheVariants.{One};
 
-use crate::members::{bound, pick, pick_node, rects_of};
+use crate::members::{bound_of_members, count_members, pick, pick_node, rects_of};
 use sp_node::{Child, Children, Node, Part, Parts, Shape, put_part};
-use sp_rect::{Numbers, Rect};
+use sp_rect::Numbers;
 use sp_split::quadratic;
 use std::alloc::{AllocError, Global};
 
@@ -85,20 +85,13 @@ pub(crate) fn with_left(
 }
 
 // A node that is not too large, under its number.
-fn keep(
-    rects: &[Rect],
-    shape: Shape,
-    mut draft: Draft,
-    number: u64,
-    node: Node,
-) -> Result<Step, AllocError>
-    requires rects { rects.now ≡ rects_in node }
-    requires some { 0 < length rects.now }
-    requires fits { length rects.now ≤ shape.max }
+fn keep(shape: Shape, mut draft: Draft, number: u64, node: Node) -> Result<Step, AllocError>
+    requires some { 0 < length (rects_in node) }
+    requires fits { length (rects_in node) ≤ shape.max }
     ensures { IfOk result (λ step. IsSettled shape draft number node step.left step.draft) }
 {
     let left = Left::One(Child {
-        rect: bound(rects),
+        rect: bound_of_members(&node),
         node: number,
     });
     put_part(&mut draft.parts, Part::Now(number, node))?;
@@ -119,8 +112,7 @@ fn put_group(
     ensures rect { IfOk result (λ child. bound_of (rects_in (pick_node node.now group.now)) ≡ Some child.rect) }
 {
     let part = pick_node(alloc, node, group)?;
-    let rects = rects_of(alloc, &part)?;
-    let rect = bound(&rects);
+    let rect = bound_of_members(&part);
     put_part(parts, Part::Now(number, part))?;
     Ok(Child { rect, node: number })
 }
@@ -128,19 +120,18 @@ fn put_group(
 // The two groups of a node that is too large, under its number and the next.
 fn split(
     alloc: Global,
-    rects: &[Rect],
     shape: Shape,
     mut draft: Draft,
     number: u64,
     node: &Node,
 ) -> Result<Step, AllocError>
     requires shape { IsShape shape }
-    requires rects { rects.now ≡ rects_in node.now }
-    requires many { shape.max < length rects.now }
+    requires many { shape.max < length (rects_in node.now) }
     requires numbers { draft.next + 1 < 2 ^ 64 }
     ensures { IfOk result (λ step. IsSettled shape draft number node.now step.left step.draft) }
 {
-    let groups = quadratic(alloc, rects, shape.min as usize)?;
+    let rects = rects_of(alloc, node)?;
+    let groups = quadratic(alloc, &rects, shape.min as usize)?;
     let other = draft.next;
     draft.next = other + 1;
     let first = put_group(alloc, &mut draft.parts, number, node, &groups.first)?;
@@ -164,10 +155,9 @@ pub(crate) fn settle(
     requires numbers { draft.next + 1 < 2 ^ 64 }
     ensures { IfOk result (λ step. IsSettled shape draft number node step.left step.draft) }
 {
-    let rects = rects_of(alloc, &node)?;
-    if rects.len() <= shape.max as usize {
-        keep(&rects, shape, draft, number, node)
+    if count_members(&node) <= shape.max as usize {
+        keep(shape, draft, number, node)
     } else {
-        split(alloc, &rects, shape, draft, number, &node)
+        split(alloc, shape, draft, number, &node)
     }
 }

@@ -29,8 +29,10 @@ fn push_children(rects: &mut Vec<Rect>, children: &[Child]) -> Result<(), AllocE
     Ok(())
 }
 
-// How many members the node has.
-fn count_members(node: &Node) -> usize {
+/// How many members the node has.
+pub(crate) fn count_members(node: &Node) -> usize
+    ensures { result ≡ length (rects_in node.now) }
+{
     match node {
         Node::Leaf(entries) => entries.len(),
         Node::Inner(children) => children.len(),
@@ -49,25 +51,16 @@ pub(crate) fn rects_of(alloc: Global, node: &Node) -> Result<Vec<Rect>, AllocErr
     Ok(rects)
 }
 
-/// The smallest rectangle that encloses all.
-pub(crate) fn bound(rects: &[Rect]) -> Rect
-    requires { 0 < length rects.now }
-    ensures { bound_of rects.now ≡ Some result }
+// The smallest rectangle that encloses all entries.
+fn bound_of_entries(entries: &[Entry]) -> Rect
+    requires { 0 < length entries.now }
+    ensures { bound_of (map (λ e. e.rect) entries.now) ≡ Some result }
 {
-    let mut bound = rects[0];
-    for i in 1..rects.len() {
-        bound = bound.bound(&rects[i]);
+    let mut bound = entries[0].rect;
+    for i in 1..entries.len() {
+        bound = bound.bound(&entries[i].rect);
     }
     bound
-}
-
-/// The smallest rectangle that encloses the node's members. Costs the members.
-pub fn bound_of_node(alloc: Global, node: &Node) -> Result<Rect, AllocError>
-    requires { 0 < length (rects_in node.now) }
-    ensures { IfOk result (λ rect. bound_of (rects_in node.now) ≡ Some rect) }
-{
-    let rects = rects_of(alloc, node)?;
-    Ok(bound(&rects))
 }
 
 /// The smallest rectangle that encloses all children.
@@ -80,6 +73,25 @@ pub(crate) fn bound_of_children(children: &[Child]) -> Rect
         bound = bound.bound(&children[i].rect);
     }
     bound
+}
+
+/// The smallest rectangle that encloses the node's members.
+pub(crate) fn bound_of_members(node: &Node) -> Rect
+    requires { 0 < length (rects_in node.now) }
+    ensures { bound_of (rects_in node.now) ≡ Some result }
+{
+    match node {
+        Node::Leaf(entries) => bound_of_entries(entries.as_slice()),
+        Node::Inner(children) => bound_of_children(children.as_slice()),
+    }
+}
+
+/// The smallest rectangle that encloses the node's members. Takes no memory. Costs the members.
+pub fn bound_of_node(_alloc: Global, node: &Node) -> Result<Rect, AllocError>
+    requires { 0 < length (rects_in node.now) }
+    ensures { IfOk result (λ rect. bound_of (rects_in node.now) ≡ Some rect) }
+{
+    Ok(bound_of_members(node))
 }
 
 /// Copies of the members at these positions.

@@ -16,7 +16,7 @@ fn rect(x1: i64, y1: i64, x2: i64, y2: i64) -> Result<Rect, &'static str> {
 fn entry(alloc: Global, number: u64, rect: Rect) -> Result<Entry, &'static str>
     ensures { IfOk result (λ e. e.number ≡ number) }
 {
-    let value = Value::new(alloc, b"v").map_err(|_| "no value")?;
+    let value = Value::new(b"v").map_err(|_| "no value")?;
     Ok(Entry {
         number,
         id: number,
