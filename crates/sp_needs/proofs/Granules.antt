@@ -13,9 +13,8 @@ use Rattle.sp_node.specs.Standing.{IsNodeOf, HasNoNode}
 use Rattle.sp_node.proofs.Standing.{node_stands}
 use Rattle.sp_granule.specs.Granules.{Granule, standing, granule, granule_of_node, granules, numbered, space_of, in_granule}
 use Rattle.sp_granule.proofs.Numbered.{number_kept, unnumbered, numbered_among, root_space, place_space}
-use Rattle.sp_needs.specs.declared.area.Area.{Area}
-use Rattle.sp_needs.specs.Areas.{area_of, area_at, is_leaf_node, holes_in, space_in, node_area}
-use Rattle.sp_needs.specs.Affected.{is_leaf_with, leaf_has}
+use Rattle.sp_needs.specs.Areas.{area_of, area_at, is_leaf_node, holes_in, space_in, node_area, leaf_space_in, leaf_space, leaf_space_at}
+use Rattle.sp_needs.specs.Affected.{is_leaf_with, leaf_has, IsSameLeaf, IsKept}
 use Rattle.sp_needs.proofs.Membership.{equal_from, apart_from}
 
 -- the granule of a node with its number and space
@@ -79,7 +78,7 @@ module _ (t : Table) (v : IsValid t) where
   area_of_granule : (n : ℕ) (b : Bool) (m : Node) → option_map area_of (node_granule n b m) ≡ node_area b m
   area_of_granule n b m = by_space (space_in b m)
     where
-      by_space : (o : Option Rectangle) → option_map area_of (option_map (λ s. granule_as n s m) o) ≡ option_map (λ s. record { is_leaf = is_leaf_node m; space = s; holes = holes_in m }) o
+      by_space : (o : Option Rectangle) → option_map area_of (option_map (λ s. granule_as n s m) o) ≡ option_map (λ s. record { space = s; holes = holes_in m }) o
       by_space None = refl
       by_space (Some s) = refl
 
@@ -90,6 +89,26 @@ module _ (t : Table) (v : IsValid t) where
       by_node : (o : Option Node) → option_map area_of (option_and_then (node_granule n (nat_eq n t.root)) o) ≡ option_and_then (node_area (nat_eq n t.root)) o
       by_node None = refl
       by_node (Some m) = area_of_granule n (nat_eq n t.root) m
+
+  leaf_of_granule : (n : ℕ) (b : Bool) (m : Node) → option_and_then leaf_space (node_granule n b m) ≡ leaf_space_in b m
+  leaf_of_granule n b (Leaf es) = by_space (space_in b (Leaf es))
+    where
+      by_space : (o : Option Rectangle) → option_and_then leaf_space (option_map (λ s. granule_as n s (Leaf es)) o) ≡ o
+      by_space None = refl
+      by_space (Some s) = refl
+  leaf_of_granule n b (Inner cs) = by_space (space_in b (Inner cs))
+    where
+      by_space : (o : Option Rectangle) → option_and_then leaf_space (option_map (λ s. granule_as n s (Inner cs)) o) ≡ None
+      by_space None = refl
+      by_space (Some s) = refl
+
+  -- and its space, where it is a leaf
+  pub leaf_space_is : (n : ℕ) → leaf_space_at (granules t) n ≡ option_and_then (leaf_space_in (nat_eq n t.root)) (look t.nodes n)
+  leaf_space_is n = ap (option_and_then leaf_space) (numbered_is n) ∙ by_node (look t.nodes n)
+    where
+      by_node : (o : Option Node) → option_and_then leaf_space (option_and_then (node_granule n (nat_eq n t.root)) o) ≡ option_and_then (leaf_space_in (nat_eq n t.root)) o
+      by_node None = refl
+      by_node (Some m) = leaf_of_granule n (nat_eq n t.root) m
 
   -- the node of a granule
   pub record HasNode (g : Granule) : Type 0 where
@@ -129,10 +148,10 @@ place_of [] g a = absurd a
 place_of (p ∷ ps) g (inl e) = (p, inl refl, e)
 place_of (p ∷ ps) g (inr a) = let more = place_of ps g a in (more.0, inr more.1, more.2)
 
--- the points of a leaf, by its area
-abbrev pub leaf_area_has : Point → Option Area → Bool
-leaf_area_has p None = false
-leaf_area_has p (Some a) = a.is_leaf && holds a.space p
+-- the points of a leaf, by its space
+abbrev pub space_has : Point → Option Rectangle → Bool
+space_has p None = false
+space_has p (Some s) = holds s p
 
 module _ (t : Table) (v : IsValid t) where
   -- each granule is found by its number
@@ -157,17 +176,35 @@ module _ (t : Table) (v : IsValid t) where
       by_node (Leaf es) e = ap (λ (x : Granule). x.holes) e
       by_node (Inner cs) e = let no = sym l ∙ ap (λ (x : Granule). x.is_leaf) e in cc
 
-  pub leaf_has_is : (p : Point) (n : ℕ) → leaf_has (granules t) p n ≡ leaf_area_has p (area_at (granules t) n)
+  -- its area is its space
+  pub leaf_area : (n : ℕ) (s : Rectangle) → leaf_space_at (granules t) n ≡ Some s → area_at (granules t) n ≡ Some (record { space = s; holes = [] })
+  leaf_area n s h = by_case (numbered (granules t) n) (λ g e. (found_among (granules t) n g e).0) h
+    where
+      by_case : (o : Option Granule) → ((g : Granule) → o ≡ Some g → Among g (granules t)) → option_and_then leaf_space o ≡ Some s → option_map area_of o ≡ Some (record { space = s; holes = [] })
+      by_case None f h = cc
+      by_case (Some g) f h = by_kind g.is_leaf refl h
+        where
+          by_kind : (b : Bool) → g.is_leaf ≡ b → cond b (Some g.space) None ≡ Some s → Some (area_of g) ≡ Some (record { space = s; holes = [] })
+          by_kind false e h = cc
+          by_kind true e h =
+              let same : g.space ≡ s = cc in
+              ap (λ (r : Rectangle). Some (record { space = r; holes = g.holes })) same ∙ ap (λ (hs : List Rectangle). Some (record { space = s; holes = hs })) (leaf_open g (f g refl) e)
+
+  pub leaf_has_is : (p : Point) (n : ℕ) → leaf_has (granules t) p n ≡ space_has p (leaf_space_at (granules t) n)
   leaf_has_is p n = by_case (numbered (granules t) n) (λ g e. (found_among (granules t) n g e).0)
     where
       open_leaf : (b : Bool) → (b && true) ≡ b
       open_leaf true = refl
       open_leaf false = refl
 
-      by_case : (o : Option Granule) → ((g : Granule) → o ≡ Some g → Among g (granules t)) → is_leaf_with p o ≡ leaf_area_has p (option_map area_of o)
+      by_case : (o : Option Granule) → ((g : Granule) → o ≡ Some g → Among g (granules t)) → is_leaf_with p o ≡ space_has p (option_and_then leaf_space o)
       by_case None f = refl
       by_case (Some g) f = by_kind g.is_leaf refl
         where
-          by_kind : (b : Bool) → g.is_leaf ≡ b → (b && in_granule g p) ≡ (b && holds g.space p)
+          by_kind : (b : Bool) → g.is_leaf ≡ b → (b && in_granule g p) ≡ space_has p (cond b (Some g.space) None)
           by_kind false e = refl
           by_kind true e = ap (λ (hs : List Rectangle). in_granule (record { number = g.number; is_leaf = g.is_leaf; space = g.space; holes = hs; entries = g.entries }) p) (leaf_open g (f g refl) e) ∙ open_leaf (holds g.space p)
+
+-- leaves of the same space have the same area
+pub same_leaf : (t t' : Table) → IsValid t → IsValid t' → (n : ℕ) → IsSameLeaf (granules t) (granules t') n → IsKept (granules t) (granules t') n
+same_leaf t t' v v' n h = (leaf_area t' v' n h.0 h.2 ∙ sym (leaf_area t v n h.0 h.1), h.2 ∙ sym h.1)

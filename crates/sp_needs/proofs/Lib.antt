@@ -3,6 +3,7 @@ mod Outcome
 mod Added
 mod Granules
 mod Parts
+mod Spaces
 mod Losing
 mod Gaining
 mod Giving

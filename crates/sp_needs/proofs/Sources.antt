@@ -1,19 +1,21 @@
 -- What is lost, gained and reached, from what was computed of it.
 use Rattle.std.proofs.Common.{◌≡◌, ℕ, Bool, true, false, ◌&&◌, not, ◌↔◌, List, ◌++◌, Option, Some, None, refl, sym, ap, ◌∙◌, subst, inl, inr, ◌⊎◌}
 use Rattle.std.specs.List.{list_any}
-use Rattle.std.specs.Option.{option_to_list}
+use Rattle.std.specs.Option.{option_to_list, option_map}
 use Rattle.sp_rect.specs.Plane.{Rectangle, Point, holds}
-use Rattle.sp_region.specs.Region.{covered}
+use Rattle.sp_region.specs.Region.{covered, is_left}
 use Rattle.sp_region.proofs.Points.{both_pass, each_passes}
 use Rattle.sp_node.specs.Among.{Among}
 use Rattle.sp_node.specs.Table.{Table, IsValid}
 use Rattle.sp_node.proofs.Among.{among_left, among_right, among_split}
 use Rattle.sp_granule.specs.Granules.{Granule, granules, numbered, in_granule}
 use Rattle.sp_protection.specs.Reshape.{Loses, IsGone, Gives, IsGained, IsSource, IsReached}
-use Rattle.sp_needs.specs.Affected.{IsLost, IsGiver, AreThose, is_leaf_with, leaf_has, gains, HasLeftOfAny}
+use Rattle.sp_needs.specs.declared.area.Area.{Area}
+use Rattle.sp_needs.specs.Areas.{area_of, area_at}
+use Rattle.sp_needs.specs.Affected.{IsKept, IsLost, IsGiver, AreThose, is_leaf_with, leaf_has, gains, AreSourcesFor, HasLeftOfAny}
 use Rattle.sp_needs.proofs.Membership.{any_from, some_passes, clash}
-use Rattle.sp_needs.proofs.Granules.{found_among}
-use Rattle.sp_needs.proofs.Losing.{by_number, not_true, true_not}
+use Rattle.sp_needs.proofs.Granules.{found_among, leaf_has_is, space_has}
+use Rattle.sp_needs.proofs.Losing.{area_some, by_number, not_true, true_not}
 
 -- a leaf with the point
 pub leaf_found : (gs : List Granule) (p : Point) (n : ℕ) → leaf_has gs p n ≡ true → (g : Granule) × (numbered gs n ≡ Some g) × (g.is_leaf ≡ true) × (in_granule g p ≡ true)
@@ -40,7 +42,7 @@ module _ (t : Table) (v : IsValid t) where
   pub leaf_at : (p : Point) (g : Granule) (n : ℕ) → Among g (granules t) → g.is_leaf ≡ true → g.number ≡ n → leaf_has (granules t) p n ≡ in_granule g p
   leaf_at p g n a l e = ap (is_leaf_with p) (by_number t v n g a e) ∙ ap (λ (b : Bool). b && in_granule g p) l
 
-module _ (t t' : Table) (v : IsValid t) (v' : IsValid t') (numbers : List ℕ) (differ : (n : ℕ) → (numbered (granules t') n ≡ numbered (granules t) n) ⊎ Among n numbers) where
+module _ (t t' : Table) (v : IsValid t) (v' : IsValid t') (numbers : List ℕ) (differ : (n : ℕ) → IsKept (granules t) (granules t') n ⊎ Among n numbers) where
   abbrev gs : List Granule
   gs = granules t
 
@@ -48,14 +50,16 @@ module _ (t t' : Table) (v : IsValid t) (v' : IsValid t') (numbers : List ℕ) (
   gs' = granules t'
 
   -- what is lost differs
-  kept_not_lost : (n : ℕ) → IsLost gs gs' n → numbered gs' n ≡ numbered gs n → ⊥
+  kept_not_lost : (n : ℕ) → IsLost gs gs' n → IsKept gs gs' n → ⊥
   kept_not_lost n h e =
-      let there : numbered gs' n ≡ Some h.granule = e ∙ by_number t v n h.granule h.among h.named in
+      let there : area_at gs' n ≡ Some (area_of h.granule) = e.0 ∙ ap (option_map area_of) (by_number t v n h.granule h.among h.named) in
+      let s = area_some gs' n (area_of h.granule) there in
       elim h.is [
         | inl x ↦
-            let same : x.after ≡ h.granule = one_some (numbered gs' n) x.after h.granule (by_number t' v' n x.after x.among (x.same ∙ h.named)) there in
-            clash (in_granule h.granule x.point) x.had (subst (λ (g : Granule). in_granule g x.point ≡ false) same x.lost)
-        | inr x ↦ x h.granule (found_among gs' n h.granule there).0 refl
+            let same : x.after ≡ s.0 = one_some (numbered gs' n) x.after s.0 (by_number t' v' n x.after x.among (x.same ∙ h.named)) s.1 in
+            let has : in_granule s.0 x.point ≡ true = ap (λ (a : Area). is_left a.space a.holes x.point) (sym s.2) ∙ x.had in
+            clash (in_granule s.0 x.point) has (subst (λ (g : Granule). in_granule g x.point ≡ false) same x.lost)
+        | inr x ↦ let f = found_among gs' n s.0 s.1 in x s.0 f.0 (f.1 ∙ sym h.named)
       ]
 
   pub lost_is : (lost : List ℕ) → AreThose (IsLost gs gs') numbers lost → (n : ℕ) → Among n lost ↔ IsLost gs gs' n
@@ -95,8 +99,8 @@ module _ (t t' : Table) (v : IsValid t) (v' : IsValid t') (numbers : List ℕ) (
               let a = found_among gs n f.0 f.1 in
               absurd (clash (in_granule f.0 p) f.3 (h.3.1 f.0 a.0 f.2 a.1))
 
-          by_kind : ((numbered gs' n ≡ numbered gs n) ⊎ Among n numbers) → list_any (gains gs gs' p) numbers ≡ true
-          by_kind (inl e) = absurd (clash (leaf_has gs p n) (ap (is_leaf_with p) (sym e) ∙ has_now) (had_not (leaf_has gs p n) refl))
+          by_kind : (IsKept gs gs' n ⊎ Among n numbers) → list_any (gains gs gs' p) numbers ≡ true
+          by_kind (inl e) = absurd (clash (leaf_has gs p n) (leaf_has_is t v p n ∙ ap (space_has p) (sym e.1) ∙ sym (leaf_has_is t' v' p n) ∙ has_now) (had_not (leaf_has gs p n) refl))
           by_kind (inr a) = any_from (gains gs gs' p) numbers n a (both_pass (leaf_has gs' p n) (not (leaf_has gs p n)) has_now (true_not (leaf_has gs p n) (had_not (leaf_has gs p n) refl)))
 
   module _ (chosen : Option ℕ) (lost givers : List ℕ) (are_lost : (n : ℕ) → Among n lost ↔ IsLost gs gs' n) (are_givers : (n : ℕ) → Among n givers ↔ IsGiver gs gs' n) where
@@ -152,7 +156,7 @@ module _ (t t' : Table) (v : IsValid t) (v' : IsValid t') (numbers : List ℕ) (
             among (inr (inr (inr e))) = among_right n (lost ++ givers) (option_to_list chosen) (to_list chosen n e)
 
     -- what is reached
-    module _ (sources gains_of : List Rectangle) (are_sources : (p : Point) → covered sources p ≡ list_any (leaf_has gs p) locked) (are_gains : (p : Point) → covered gains_of p ≡ list_any (gains gs gs' p) numbers) where
+    module _ (sources gains_of : List Rectangle) (are_sources : AreSourcesFor gains_of gs locked sources) (are_gains : (p : Point) → covered gains_of p ≡ list_any (gains gs gs' p) numbers) where
       pub reached_from : (n : ℕ) → HasLeftOfAny gs sources gains_of n → (g : Granule) × Among g gs × (g.number ≡ n) × IsReached gs gs' chosen g
       reached_from n h =
           let p = h.2.0 in
@@ -169,7 +173,7 @@ module _ (t t' : Table) (v : IsValid t) (v' : IsValid t') (numbers : List ℕ) (
               point = p;
               gained = gain.3;
               had = g.3;
-              no_source = λ l a b s. clash (covered sources p) (are_sources p ∙ (source_is p).1 (l, a, b, s)) (not_true (covered sources p) k.1);
+              no_source = λ l a b s. clash (covered sources p) (are_sources h.0 h.1 p ∙ (source_is p).1 (l, a, b, s)) (not_true (covered sources p) k.1);
             },
           )
 
@@ -177,8 +181,8 @@ module _ (t t' : Table) (v : IsValid t) (v' : IsValid t') (numbers : List ℕ) (
       reached_to n g a e h =
           let p = h.point in
           let s = some_passes (λ (r : Rectangle). holds r p) gains_of (are_gains p ∙ (gained_is p).1 (h.after, h.among, h.is_leaf, h.gained)) in
-          (s.0, s.1, (p, both_pass (holds s.0 p) (not (covered sources p)) s.2 (true_not (covered sources p) (free (covered sources p) refl)), (g, a, e, h.had)))
+          (s.0, s.1, (p, both_pass (holds s.0 p) (not (covered sources p)) s.2 (true_not (covered sources p) (free s.0 s.1 (covered sources p) refl)), (g, a, e, h.had)))
         where
-          free : (b : Bool) → covered sources h.point ≡ b → covered sources h.point ≡ false
-          free false f = f
-          free true f = let l = (source_is h.point).0 (sym (are_sources h.point) ∙ f) in absurd (h.no_source l.0 l.1 l.2 l.3)
+          free : (gain : Rectangle) → Among gain gains_of → (b : Bool) → covered sources h.point ≡ b → covered sources h.point ≡ false
+          free gain among false f = f
+          free gain among true f = let l = (source_is h.point).0 (sym (are_sources gain among h.point) ∙ f) in absurd (h.no_source l.0 l.1 l.2 l.3)

@@ -10,9 +10,9 @@ use Rattle.sp_node.specs.declared.plan.Plan.{Plan}
 use Rattle.sp_node.specs.Among.{Among}
 use Rattle.sp_node.specs.Plan.{planned, IsMadeOf}
 use Rattle.sp_node.specs.Table.{Table, IsValid}
-use Rattle.sp_granule.specs.Granules.{granules, numbered}
+use Rattle.sp_granule.specs.Granules.{granules}
 use Rattle.sp_protection.specs.Needs.{ShortWant, AreNeedsOf}
-use Rattle.sp_needs.specs.Affected.{IsLost, IsGiver, AreThose, leaf_has, gains, left_by_part, HasLeftOfAny, need_on}
+use Rattle.sp_needs.specs.Affected.{IsKept, IsLost, IsGiver, AreThose, AreSourcesFor, gains, left_by_part, HasLeftOfAny, need_on}
 use Rattle.sp_needs.proofs.Giving.{giver_is}
 use Rattle.sp_needs.proofs.Sources.{lost_is, reached_from, reached_to}
 use Rattle.sp_needs.proofs.Wanted.{are_needs}
@@ -21,10 +21,10 @@ use Rattle.sp_needs.proofs.Wanted.{are_needs}
 pub record Computed (t : Table) (plan : Plan) (chosen : Option ℕ) (numbers lost givers reached all : List ℕ) : Type 0 where
   pub sources : List Rectangle
   pub gained : List Rectangle
-  pub differ : (n : ℕ) → (numbered (granules (planned t plan)) n ≡ numbered (granules t) n) ⊎ Among n numbers
+  pub differ : (n : ℕ) → IsKept (granules t) (granules (planned t plan)) n ⊎ Among n numbers
   pub are_lost : AreThose (IsLost (granules t) (granules (planned t plan))) numbers lost
   pub are_givers : (n : ℕ) → Among n givers ↔ Among n (flat_map (left_by_part t.nodes) plan.parts)
-  pub are_sources : (p : Point) → covered sources p ≡ list_any (leaf_has (granules t) p) ((lost ++ givers) ++ option_to_list chosen)
+  pub are_sources : AreSourcesFor gained (granules t) ((lost ++ givers) ++ option_to_list chosen) sources
   pub are_gained : (p : Point) → covered gained p ≡ list_any (gains (granules t) (granules (planned t plan)) p) numbers
   pub are_reached : (n : ℕ) → Among n reached ↔ HasLeftOfAny (granules t) sources gained n
   pub are_all : (n : ℕ) → Among n all ↔ Among n ((lost ++ givers) ++ reached)

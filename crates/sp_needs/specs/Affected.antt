@@ -6,7 +6,7 @@ use Rattle.sp_locks.specs.declared.row.Name.TheVariants.{Granule as OnGranule}
 use Rattle.sp_locks.specs.declared.row.Duration.TheVariants.{Short}
 use Rattle.sp_locks.specs.declared.needs.Need.{Need}
 use Rattle.sp_rect.specs.Plane.{Rectangle, Point}
-use Rattle.sp_region.specs.Region.{is_left}
+use Rattle.sp_region.specs.Region.{covered, is_left}
 use Rattle.sp_node.specs.declared.node.Entry.{Entry}
 use Rattle.sp_node.specs.declared.node.Node.{Node}
 use Rattle.sp_node.specs.declared.plan.Part.{Part}
@@ -16,6 +16,19 @@ use Rattle.sp_node.specs.Look.{entries_in}
 use Rattle.sp_node.specs.Plan.{number_of, content}
 use Rattle.sp_granule.specs.Granules.{Granule, numbered, in_granule, HasPoint}
 use Rattle.sp_protection.specs.Reshape.{Loses, IsGone, Gives}
+use Rattle.sp_needs.specs.Areas.{area_at, leaf_space_at}
+
+-- the granule of this number has the same area after the change, and is a leaf's still where it was one's
+abbrev pub IsKept : List Granule → List Granule → ℕ → Type 0
+IsKept gs gs' number = (area_at gs' number ≡ area_at gs number) × (leaf_space_at gs' number ≡ leaf_space_at gs number)
+
+-- so have those of all the numbers, but for the others
+abbrev pub AreKeptBut : List Granule → List Granule → List ℕ → List ℕ → Type 0
+AreKeptBut gs gs' numbers others = (n : ℕ) → Among n numbers → IsKept gs gs' n ⊎ Among n others
+
+-- both have a leaf of this number, with the same space
+abbrev pub IsSameLeaf : List Granule → List Granule → ℕ → Type 0
+IsSameLeaf gs gs' number = (space : Rectangle) × (leaf_space_at gs number ≡ Some space) × (leaf_space_at gs' number ≡ Some space)
 
 -- the granule of this number loses a point or is gone
 pub record IsLost (gs gs' : List Granule) (number : ℕ) : Type 0 where
@@ -43,6 +56,10 @@ leaf_has gs p number = is_leaf_with p (numbered gs number)
 -- whether the leaf of this number has the point after the change and not before
 abbrev pub gains : List Granule → List Granule → Point → ℕ → Bool
 gains gs gs' p number = leaf_has gs' p number && not (leaf_has gs p number)
+
+-- where there is a gain, the rectangles have just the points of the leaves of these numbers
+abbrev pub AreSourcesFor : List Rectangle → List Granule → List ℕ → List Rectangle → Type 0
+AreSourcesFor gained gs numbers rects = (gain : Rectangle) → Among gain gained → (p : Point) → covered rects p ≡ list_any (leaf_has gs p) numbers
 
 -- the granule of this number has a point of the rectangle that the others leave
 abbrev pub HasLeftOf : List Granule → List Rectangle → Rectangle → ℕ → Type 0

@@ -6,7 +6,7 @@ ghost use Rattle.sp_node.specs.Look.{look};
 ghost use Rattle.sp_node.specs.Plan.{IsMadeOf, planned, with_parts};
 ghost use Rattle.sp_node.specs.Table.{IsValid};
 ghost use Rattle.sp_granule.specs.Granules.{granules, member_rects};
-ghost use Rattle.sp_needs.specs.Areas.{area_at, node_area, holes_in, space_in, first_part};
+ghost use Rattle.sp_needs.specs.Areas.{area_at, node_area, holes_in, space_in, leaf_space_in, leaf_space_at, first_part};
 
 use sp_node::{Child, Entry, Node, Part, Plan, Tree};
 use sp_rect::{Records2, Rect, WHOLE};
@@ -15,7 +15,6 @@ use std::alloc::{AllocError, Global};
 /// The points of a granule: those of its node's space that its holes leave. A leaf has no holes.
 #[derive(Drop)]
 pub(crate) struct Area {
-    pub is_leaf: bool,
     pub space: Rect,
     pub holes: Records2,
 }
@@ -93,11 +92,7 @@ fn area_of_node(alloc: Global, node: &Node, is_root: bool) -> Result<Option<Area
         return Ok(None);
     };
     let holes = holes_of(alloc, node)?;
-    Ok(Some(Area {
-        is_leaf: matches!(node, Node::Leaf(_)),
-        space,
-        holes,
-    }))
+    Ok(Some(Area { space, holes }))
 }
 
 /// The area of the tree's granule of this number, or None exactly where there is none. Costs the node's
@@ -110,6 +105,26 @@ pub(crate) fn before(alloc: Global, tree: &Tree, number: u64) -> Result<Option<A
         Some(node) => area_of_node(alloc, node, number == tree.root()),
         None => Ok(None),
     }
+}
+
+// The space of a leaf, and None of an inner node.
+fn space_of_leaf(node: &Node, is_root: bool) -> Option<Rect>
+    ensures { result ≡ leaf_space_in is_root node.now }
+{
+    match node {
+        Node::Leaf(_) => space_of_node(node, is_root),
+        Node::Inner(_) => None,
+    }
+}
+
+/// The space of the tree's leaf of this number, or None exactly where there is none. Takes no memory, and
+/// costs the leaf's entries.
+pub(crate) fn space_before(tree: &Tree, number: u64) -> Option<Rect>
+    ensures valid { IsValid tree.now.table }
+    ensures space { result ≡ leaf_space_at (granules tree.now.table) number }
+{
+    let is_root = number == tree.root();
+    space_of_leaf(tree.node(number)?, is_root)
 }
 
 // The first part that names this number.
@@ -149,4 +164,13 @@ pub(crate) fn after(
         Some(node) => area_of_node(alloc, node, number == plan.root),
         None => Ok(None),
     }
+}
+
+/// The space of the leaf of this number after the change, or None exactly where there is none. Takes no
+/// memory, and costs the parts and the leaf's entries.
+pub(crate) fn space_after(tree: &Tree, plan: &Plan, number: u64) -> Option<Rect>
+    requires { IsMadeOf tree.now.table plan.now }
+    ensures { result ≡ leaf_space_at (granules (planned tree.now.table plan.now)) number }
+{
+    space_of_leaf(node_after(tree, plan, number)?, number == plan.root)
 }

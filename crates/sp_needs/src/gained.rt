@@ -7,34 +7,29 @@ ghost use Rattle.sp_node.specs.Plan.{IsMadeOf, planned};
 ghost use Rattle.sp_granule.specs.Granules.{granules};
 ghost use Rattle.sp_needs.specs.Affected.{leaf_has, gains};
 
-use crate::area::{after, before};
+use crate::area::{space_after, space_before};
 use sp_node::{Plan, Tree};
 use sp_rect::{Records2, Rect};
 use sp_region::minus;
 use std::alloc::{AllocError, Global};
 
 // Adds the space of the tree's leaf of this number.
-fn push_leaf(
-    alloc: Global,
-    tree: &Tree,
-    number: u64,
-    rects: &mut Records2,
-) -> Result<(), AllocError>
+fn push_leaf(tree: &Tree, number: u64, rects: &mut Records2) -> Result<(), AllocError>
     ensures { OnOk result ((p : Point) → covered rects.new p ≡ (covered rects.old p || leaf_has (granules tree.now.table) p number)) }
 {
-    match before(alloc, tree, number)? {
-        Some(area) if area.is_leaf => rects.push(area.space),
-        _ => Ok(()),
+    match space_before(tree, number) {
+        Some(space) => rects.push(space),
+        None => Ok(()),
     }
 }
 
-/// The spaces of those of the numbers that are leaves of the tree. Costs the members of their nodes.
+/// The spaces of those of the numbers that are leaves of the tree. Costs the leaves' entries.
 pub(crate) fn leaves(alloc: Global, tree: &Tree, numbers: &[u64]) -> Result<Records2, AllocError>
     ensures { IfOk result (λ rects. (p : Point) → covered rects p ≡ list_any (leaf_has (granules tree.now.table) p) numbers.now) }
 {
     let mut rects = Records2::new(alloc);
     for number in numbers {
-        push_leaf(alloc, tree, *number, &mut rects)?;
+        push_leaf(tree, *number, &mut rects)?;
     }
     Ok(rects)
 }
@@ -60,19 +55,17 @@ fn push_gain(
     requires { IsMadeOf tree.now.table plan.now }
     ensures { OnOk result ((p : Point) → covered rects.new p ≡ (covered rects.old p || gains (granules tree.now.table) (granules (planned tree.now.table plan.now)) p number)) }
 {
-    match after(alloc, tree, plan, number)? {
-        Some(area) if area.is_leaf => {
-            let mut old = Records2::new(alloc);
-            push_leaf(alloc, tree, number, &mut old)?;
-            let region = minus(alloc, &area.space, &old)?;
-            push_all(rects, region.rects())
-        }
-        _ => Ok(()),
-    }
+    let Some(space) = space_after(tree, plan, number) else {
+        return Ok(());
+    };
+    let mut old = Records2::new(alloc);
+    push_leaf(tree, number, &mut old)?;
+    let region = minus(alloc, &space, &old)?;
+    push_all(rects, region.rects())
 }
 
-/// The points that the leaves of these numbers gain, as rectangles. Costs the members of their nodes, and
-/// four rectangles a leaf at most.
+/// The points that the leaves of these numbers gain, as rectangles. Costs the parts for each number, the
+/// leaves' entries, and four rectangles a leaf at most.
 pub(crate) fn gained(
     alloc: Global,
     tree: &Tree,

@@ -7,7 +7,7 @@ ghost use Rattle.sp_node.specs.Among.{Among};
 ghost use Rattle.sp_node.specs.Plan.{IsMadeOf, planned};
 ghost use Rattle.sp_granule.specs.Granules.{granules};
 ghost use Rattle.sp_protection.specs.Needs.{ShortWant, AreNeedsOf};
-ghost use Rattle.sp_needs.specs.Affected.{need_on};
+ghost use Rattle.sp_needs.specs.Affected.{need_on, AreSourcesFor};
 
 use crate::differing::differing;
 use crate::gained::{gained, leaves};
@@ -16,6 +16,7 @@ use crate::lost::lost;
 use crate::reached::reached;
 use sp_locks::{Duration, Mode, Name, Need, Needs};
 use sp_node::{Plan, Tree};
+use sp_rect::{Records2, Rect};
 use std::alloc::{AllocError, Global};
 
 // The numbers in order, each once.
@@ -78,6 +79,22 @@ fn with_chosen(alloc: Global, numbers: &[u64], chosen: Option<u64>) -> Result<Ve
     Ok(all)
 }
 
+// The spaces of the leaves that are locked anyway, where a leaf gains anything: they matter to nothing else.
+fn sources(
+    alloc: Global,
+    tree: &Tree,
+    parting: &[u64],
+    chosen: Option<u64>,
+    gains: &[Rect],
+) -> Result<Records2, AllocError>
+    ensures { IfOk result (λ rects. AreSourcesFor gains.now (granules tree.now.table) (parting.now ++ option_to_list chosen) rects) }
+{
+    if gains.is_empty() {
+        return Ok(Records2::new(alloc));
+    }
+    leaves(alloc, tree, &with_chosen(alloc, parting, chosen)?)
+}
+
 /// The short locks that a change of the tree wants, by ascending number, one a granule: IX on each granule
 /// that loses a point or is gone; IX on each that has a point which a leaf gains, where no leaf has the point
 /// that loses points itself, is gone, gives an entry away, or was chosen for a new entry; and SIX on each leaf
@@ -99,8 +116,8 @@ pub fn short_needs(
     let lost = lost(alloc, tree, plan, &numbers)?;
     let givers = in_order(givers(alloc, tree, plan.parts.as_slice())?)?;
     let parting = joined(alloc, &lost, &givers)?;
-    let sources = leaves(alloc, tree, &with_chosen(alloc, &parting, chosen)?)?;
     let gains = gained(alloc, tree, plan, &numbers)?;
+    let sources = sources(alloc, tree, &parting, chosen, gains.as_slice())?;
     let reached = reached(alloc, tree, gains.as_slice(), &sources)?;
     let all = in_order(joined(alloc, &parting, &reached)?)?;
     needs_on(alloc, &givers, &all)
