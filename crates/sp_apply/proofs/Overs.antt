@@ -42,6 +42,7 @@ use Rattle.sp_model.proofs.Sessions.{found-among}
 use Rattle.sp_model.proofs.Staging.{told}
 use Rattle.sp_state.specs.Held.{kernel_of, Fits}
 use Rattle.sp_state.specs.declared.state.State.{State}
+use Rattle.sp_state.specs.Sketches.{IsSketchOf}
 use Rattle.sp_apply.specs.Acting.{IsReady}
 use Rattle.sp_apply.proofs.Ready.{active_planned}
 
@@ -108,8 +109,8 @@ module _ (s : State) (n at : ℕ) (x : Session) (op : Op) (sound : Sound (kernel
       go : (a b m : ℕ) → a + m ≡ b + m → a ≡ b
       go a b m h = omega arith
 
-  pub rested_fits : (s' : State) → s'.seats.items ≡ staged x.txn.session Idle xs → s'.audit ≡ s.audit → s'.tree.table ≡ s.tree.table → deque_capacity s'.dead ≡ deque_capacity s.dead → s'.operations ≡ s.operations - 1 → s'.records ≡ s.records → Fits s'
-  rested_fits s' seats audit tree dead operations records = record {
+  pub rested_fits : (s' : State) → s'.seats.items ≡ staged x.txn.session Idle xs → s'.audit ≡ s.audit → s'.tree.table ≡ s.tree.table → deque_capacity s'.dead ≡ deque_capacity s.dead → s'.operations ≡ s.operations - 1 → s'.records ≡ s.records → IsSketchOf s'.tree.table s'.sketch → Fits s'
+  rested_fits s' seats audit tree dead operations records sketch = record {
     operations = operations ∙ fewer s.operations (kept_operations s.audit.commits) (open_operations (staged x.txn.session Idle xs)) (open_operations xs) fits.operations open_rested
         ∙ ap₂ (λ (a : History) (ys : List Session). kept_operations a.commits + open_operations ys) (sym audit) (sym seats);
     records = records ∙ fits.records ∙ ap (λ (m : ℕ). sum_by (λ (c : Commit). records_told c.ops) s.audit.commits + m) (sym told_rested)
@@ -117,6 +118,7 @@ module _ (s : State) (n at : ℕ) (x : Session) (op : Op) (sound : Sound (kernel
     endings = within (open_transactions s'.seats.items) (open_transactions (staged x.txn.session Idle xs)) (open_transactions xs) s.audit.spare s'.audit.spare
         (ap open_transactions seats) (staged-open x Idle xs sound.sessions.ascending here active refl) fits.endings (ap (λ (a : History). a.spare) audit);
     graves = let g = fits.graves in let e = ap (λ (t : Table). length (entries_of t)) tree in omega (arith, g, e, dead);
+    sketch = sketch;
   }
     where
       fewer : (total kept after before : ℕ) → total ≡ kept + before → after + 1 ≡ before → total - 1 ≡ kept + after
@@ -156,14 +158,15 @@ module _ (s : State) (n at : ℕ) (x : Session) (op : Op) (sound : Sound (kernel
     opened : open_transactions ys ≡ open_transactions xs
     opened = let p = length-sum (filter is_active ys) in let q = length-sum (filter is_active xs) in let r = sums (λ y. 1) in omega (arith, p, q, r)
 
-    pub kept_fits : (s' : State) → s'.seats.items ≡ ys → s'.audit ≡ s.audit → length (entries_of s'.tree.table) ≤ deque_capacity s'.dead → s'.operations ≡ s.operations → s'.records ≡ s.records + records_in reply → Fits s'
-    kept_fits s' seats audit graves operations records = record {
+    pub kept_fits : (s' : State) → s'.seats.items ≡ ys → s'.audit ≡ s.audit → length (entries_of s'.tree.table) ≤ deque_capacity s'.dead → s'.operations ≡ s.operations → s'.records ≡ s.records + records_in reply → IsSketchOf s'.tree.table s'.sketch → Fits s'
+    kept_fits s' seats audit graves operations records sketch = record {
       operations = operations ∙ fits.operations ∙ ap (λ (m : ℕ). kept_operations s.audit.commits + m) (sym open_kept)
           ∙ ap₂ (λ (a : History) (zs : List Session). kept_operations a.commits + open_operations zs) (sym audit) (sym seats);
       records = records ∙ more s.records (sum_by (λ (c : Commit). records_told c.ops) s.audit.commits) (sum_by (λ (y : Session). records_told y.txn.ops) (filter is_active xs)) (records_in reply) (sum_by (λ (y : Session). records_told y.txn.ops) (filter is_active ys)) fits.records told_kept
           ∙ ap₂ (λ (a : History) (zs : List Session). sum_by (λ (c : Commit). records_told c.ops) a.commits + sum_by (λ (y : Session). records_told y.txn.ops) (filter is_active zs)) (sym audit) (sym seats);
       endings = within (open_transactions s'.seats.items) (open_transactions ys) (open_transactions xs) s.audit.spare s'.audit.spare (ap open_transactions seats) opened fits.endings (ap (λ (a : History). a.spare) audit);
       graves = graves;
+      sketch = sketch;
     }
       where
         more : (total kept before r after : ℕ) → total ≡ kept + before → after ≡ before + r → total + r ≡ kept + after

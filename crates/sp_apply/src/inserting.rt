@@ -46,6 +46,7 @@ pub(crate) fn insert(
     ensures same { OnErr result (kernel_of state.new ≡ kernel_of state.old) }
     ensures fits { Fits state.new }
 {
+    state.sketch = None;
     let gifts = gifts(alloc, &state.tree, &plan, &state.seats[at])?;
     state.tree.make_room(&plan)?;
     make_graves(&mut state.dead, state.tree.len() + 1)?;

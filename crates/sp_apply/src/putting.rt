@@ -1,16 +1,19 @@
 // A put that adds an entry.
-ghost use Rattle.std.specs.Prelude.{◌≡◌, ◌⊎◌, ◌+◌, ◌<◌, ◌≤◌, true, Some, IfOk, OnErr, MatchBool, length};
+ghost use Rattle.std.specs.Prelude.{◌≡◌, ◌⊎◌, ◌+◌, ◌<◌, ◌≤◌, ◌^◌, true, None, Some, IfOk, OnErr, MatchBool, length};
 ghost use Rattle.sp_rect.specs.declared.operation.Op.TheVariants.{Put};
 ghost use Rattle.sp_rect.specs.declared.record.Record.{Record as AnyRecord};
+ghost use Rattle.sp_node.specs.Index.{leaf_with};
+ghost use Rattle.sp_node.specs.Plan.{IsMadeOf, planned};
 ghost use Rattle.sp_protection.specs.Effects.{fresh};
 ghost use Rattle.sp_event.specs.declared.event.Event.TheVariants.{Apply as AskApply};
 ghost use Rattle.sp_model.specs.declared.session.Session.{Session as AnySession};
-ghost use Rattle.sp_model.specs.Plans.{is_adding};
+ghost use Rattle.sp_model.specs.Plans.{is_adding, IsInserted};
 ghost use Rattle.sp_model.specs.Refusals.{first_unused};
 ghost use Rattle.sp_model.specs.Removal.{IsTakenOut};
 ghost use Rattle.sp_model.specs.Soundness.{Sound};
 ghost use Rattle.sp_model.specs.Stepped.{Does};
 ghost use Rattle.sp_state.specs.Held.{kernel_of, Fits};
+ghost use Rattle.sp_state.specs.Sketches.{IsSketchOf};
 ghost use Rattle.sp_state.specs.Stages.{op_of};
 ghost use Rattle.sp_apply.specs.Acting.{IsReady, IsGoing};
 
@@ -20,9 +23,9 @@ use sp_event::{Answer, Kind};
 use sp_insertion::plan_insertion;
 use sp_list::Duplicate;
 use sp_locks::SessionId;
-use sp_node::{Draft, Ended, Entry, Made, Marks};
+use sp_node::{Draft, Ended, Entry, Made, Marks, Plan, Tree};
 use sp_rect::Op;
-use sp_state::{Seat, State};
+use sp_state::{Seat, Sketch, State, take_plan};
 use std::alloc::{AllocError, Global};
 
 // The most entries.
@@ -53,6 +56,27 @@ fn fresh_entry(alloc: Global, seat: &Seat, number: u64) -> Result<Entry, AllocEr
             })
         }
         _ => unreachable!(),
+    }
+}
+
+// The plan of the entry's insertion: the one that was made when the operation was planned, or else a new one. No
+// sketch is kept.
+fn plan_of(
+    alloc: Global,
+    sketch: &mut Option<Sketch>,
+    tree: &Tree,
+    entry: Entry,
+) -> Result<Plan, AllocError>
+    requires fresh { leaf_with tree.now.table.nodes entry.number ≡ None }
+    requires numbers { tree.now.table.next < 2 ^ 63 + 2 ^ 32 }
+    requires sketch { IsSketchOf tree.now.table sketch.old }
+    ensures gone { sketch.new ≡ None }
+    ensures made { IfOk result (IsMadeOf tree.now.table) }
+    ensures inserted { IfOk result (λ plan. IsInserted tree.now.table entry (planned tree.now.table plan)) }
+{
+    match take_plan(sketch, &entry) {
+        Some(plan) => Ok(plan),
+        None => plan_insertion(alloc, tree, entry),
     }
 }
 
@@ -88,7 +112,7 @@ pub(crate) fn put(
         return Ok(Answer::Full(Kind::Entries));
     }
     let entry = fresh_entry(alloc, &state.seats[at], state.next_entry)?;
-    let plan = plan_insertion(alloc, &state.tree, entry)?;
+    let plan = plan_of(alloc, &mut state.sketch, &state.tree, entry)?;
     if passes_numbers(state.next_entry, state.tree.next(), plan.next) {
         end(state, session, at);
         return Ok(Answer::Full(Kind::Numbers));

@@ -42,6 +42,7 @@ pub(crate) fn stay(
         return Ok(Answer::Full(Kind::Replies));
     }
     let answer = effect.reply.copy(alloc)?;
+    state.sketch = None;
     note_all(&mut state.tree, effect.marks.as_slice())?;
     keep(&mut state.seats, at, effect.reply)?;
     mark_all(&mut state.tree, effect.marks.into_vec());

@@ -29,6 +29,7 @@ use Rattle.sp_model.proofs.Settling.{undone-keeps}
 use Rattle.sp_model.proofs.Untouched.{settled-same, undone-same, untouched}
 use Rattle.sp_state.specs.declared.state.State.{State}
 use Rattle.sp_state.specs.Held.{kernel_of, Fits}
+use Rattle.sp_state.specs.Sketches.{IsSketchOf}
 use Rattle.sp_ending.specs.declared.marks.Ending.{Ending}
 use Rattle.sp_ending.specs.declared.marks.Ending.TheVariants.{Commit, Rollback}
 use Rattle.sp_ending.specs.Ends.{ended, AreClean, MayEnd}
@@ -115,12 +116,13 @@ module _ (s : State) (x : Session) (fits : Fits s) (ascending : AreAscending s.s
   open-without = let a = length-sum (filter is_active (sessions_without x.txn.session s.seats.items)) in let b = length-sum (filter is_active s.seats.items) in let d = loses (λ y. 1) in omega (arith, a, b, d)
 
   pub fits-without : (s' : State) → s'.seats.items ≡ sessions_without x.txn.session s.seats.items → s'.audit ≡ s.audit → s'.operations ≡ s.operations - (length x.txn.ops + under_way x.stage) → s'.records ≡ s.records - records_told x.txn.ops
-      → length (entries_of s'.tree.table) ≤ deque_capacity s'.dead → Fits s'
-  fits-without s' left same ops told room = record {
+      → length (entries_of s'.tree.table) ≤ deque_capacity s'.dead → IsSketchOf s'.tree.table s'.sketch → Fits s'
+  fits-without s' left same ops told room sketch = record {
     operations = subst (λ (xs : List Session). s'.operations ≡ kept_operations s'.audit.commits + open_operations xs) (sym left) (subst (λ (a : History). s'.operations ≡ kept_operations a.commits + open_operations (sessions_without x.txn.session s.seats.items)) (sym same) fewer-operations);
     records = ops-told;
     endings = subst (λ (xs : List Session). open_transactions xs ≤ s'.audit.spare) (sym left) (subst (λ (a : History). open_transactions (sessions_without x.txn.session s.seats.items) ≤ a.spare) (sym same) fewer-open);
     graves = room;
+    sketch = sketch;
   }
     where
       fewer-operations : s'.operations ≡ kept_operations s.audit.commits + open_operations (sessions_without x.txn.session s.seats.items)

@@ -28,6 +28,7 @@ use Rattle.sp_protection.specs.Needs.{ShortWant, AreNeedsOf}
 use Rattle.sp_model.specs.Soundness.{DeadListed}
 use Rattle.sp_state.specs.declared.state.State.{State}
 use Rattle.sp_state.specs.Held.{Fits}
+use Rattle.sp_state.specs.Sketches.{IsSketchOf}
 use Rattle.sp_ending.specs.Opposing.{IsGranule}
 
 -- each dead entry has its leaf
@@ -62,12 +63,13 @@ fewer-entries t t' n p =
     omega (arith, a, b, d)
 
 -- the room after a removal
-pub fits-cleaned : (s s' : State) → Fits s → s'.seats ≡ s.seats → s'.audit ≡ s.audit → s'.operations ≡ s.operations → s'.records ≡ s.records → length (entries_of s'.tree.table) ≤ length (entries_of s.tree.table) → deque_capacity s.dead ≤ deque_capacity s'.dead → Fits s'
-fits-cleaned s s' fits seats audit operations records fewer room = record {
+pub fits-cleaned : (s s' : State) → Fits s → s'.seats ≡ s.seats → s'.audit ≡ s.audit → s'.operations ≡ s.operations → s'.records ≡ s.records → length (entries_of s'.tree.table) ≤ length (entries_of s.tree.table) → deque_capacity s.dead ≤ deque_capacity s'.dead → IsSketchOf s'.tree.table s'.sketch → Fits s'
+fits-cleaned s s' fits seats audit operations records fewer room sketch = record {
   operations = rw (seats, audit, operations) fits.operations;
   records = rw (seats, audit, records) fits.records;
   endings = rw (seats, audit) fits.endings;
   graves = let a = fits.graves in omega (arith, a, fewer, room);
+  sketch = sketch;
 }
 
 -- what the removal that is planned comes to

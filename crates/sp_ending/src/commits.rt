@@ -44,6 +44,7 @@ pub fn commit_unchanged(state: &mut State, session: SessionId) -> Answer
     let Some(at) = place_of(state.seats.as_slice(), session) else {
         return Answer::Committed(0);
     };
+    state.sketch = None;
     let from = state.dead.len();
     let place = next_place(state.audit.commits());
     let seat = dismiss(&mut state.seats, at);
@@ -74,6 +75,7 @@ pub(crate) fn place_one(alloc: Global, state: &mut State, from: usize, session: 
     let Some(at) = place_of(state.seats.as_slice(), session) else {
         return;
     };
+    state.sketch = None;
     let place = next_place(state.audit.commits());
     let seat = &mut state.seats[at];
     let number = seat.number();

@@ -54,6 +54,7 @@ pub fn clean(alloc: Global, state: &mut State) -> Result<Answer, AllocError>
             mode: found.mode,
         });
     }
+    state.sketch = None;
     state.tree.make_room(&plan)?;
     state.tree.adopt(plan);
     let _first = state.dead.pop_front();

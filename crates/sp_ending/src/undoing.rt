@@ -28,6 +28,7 @@ pub fn roll_back(state: &mut State, at: usize)
     ensures done { (x : AnySession) → slice_get state.old.seats.items at ≡ Some x → kernel_of state.new ≡ rolled_back x (kernel_of state.old) }
     ensures fits { Fits state.new }
 {
+    state.sketch = None;
     let from = state.dead.len();
     let seat = dismiss(&mut state.seats, at);
     end_marks(

@@ -42,5 +42,6 @@ pub fn open_state(alloc: Global, shape: Shape, records: Records) -> Result<State
         stopped: None,
         operations: 0,
         records: 0,
+        sketch: None,
     })
 }

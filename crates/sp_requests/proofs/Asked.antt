@@ -31,6 +31,7 @@ use Rattle.sp_model.proofs.Finishing.{planned-awake}
 use Rattle.sp_state.specs.Stages.{named, awaiting_name, asked, awaiting_need}
 use Rattle.sp_state.specs.declared.state.State.{State}
 use Rattle.sp_state.specs.Held.{kernel_of, Fits}
+use Rattle.sp_state.specs.Sketches.{IsSketchOf}
 use Rattle.sp_requests.specs.declared.requesting.Outcome.{Outcome}
 use Rattle.sp_requests.specs.declared.requesting.Outcome.TheVariants.{Granted as Gets, Waits as HasTo, Closes}
 use Rattle.sp_requests.specs.Requested.{blocking, with_lock_of, with_wait_of, IsClosed, ComesTo, IsGranted as IsHeld, HasToWait as IsWaiting, ClosesCycle as IsClosing}
@@ -152,7 +153,7 @@ awaiting_need-keeps Queued = (refl, refl)
 awaiting_need-keeps Placed = (refl, refl)
 
 pub moved-fits : (move : Stage → Stage) → KeepsCounts move → (a b : State) (s at : ℕ) (x y : Session) → Sound (kernel_of a) → StandsAt s a.seats.items at x → is_active x ≡ true → y ≡ at_stage (move x.stage) x
-    → b.seats.items ≡ slice_set a.seats.items at y → b.operations ≡ a.operations → b.records ≡ a.records → b.audit ≡ a.audit → b.tree ≡ a.tree → b.dead ≡ a.dead → Fits a → Fits b
+    → b.seats.items ≡ slice_set a.seats.items at y → b.operations ≡ a.operations → b.records ≡ a.records → b.audit ≡ a.audit → b.tree ≡ a.tree → b.dead ≡ a.dead → IsSketchOf b.tree.table b.sketch → Fits a → Fits b
 moved-fits move keeps a b s at x y sound stands active e seats operations =
     staged-fits a b x (move x.stage) sound.sessions.ascending stands.among active ((keeps x.stage).0 ∙ active) (seats ∙ staged-set s a.seats.items at x y (move x.stage) sound.sessions.ascending stands e)
     (same b.operations a.operations (under_way x.stage) (under_way (move x.stage)) operations (keeps x.stage).1)

@@ -17,6 +17,7 @@ use Rattle.sp_model.proofs.Counting.{length-sum, with-sum}
 use Rattle.sp_state.specs.Stages.{opened}
 use Rattle.sp_state.specs.declared.state.State.{State}
 use Rattle.sp_state.specs.Held.{Fits}
+use Rattle.sp_state.specs.Sketches.{IsSketchOf}
 
 pub begins-done : (k : Kernel) (s : ℕ) (taken : List Commit) (x : Session) (xs : List Session) (base : List Record) (commits : List Commit) (ended : List Ended)
     → taken ≡ k.commits → x ≡ opened k.next_txn s (length taken) → xs ≡ with_session x k.sessions → base ≡ k.base → commits ≡ k.commits → ended ≡ k.ended
@@ -42,12 +43,13 @@ few-open (x ∷ xs) = go (is_active x) (few-open xs)
 
 -- a new transaction has no operation and one end
 pub begins-fit : (a b : State) (x : Session) (s seen count : ℕ) → x ≡ opened a.next_txn s seen → b.seats.items ≡ with_session x a.seats.items → b.audit.commits ≡ a.audit.commits
-    → count ≡ length a.seats.items → count + 1 ≤ b.audit.spare → b.operations ≡ a.operations → b.records ≡ a.records → b.tree ≡ a.tree → b.dead ≡ a.dead → Fits a → Fits b
-begins-fit a b x s seen count e seats commits counted room operations records tree dead fits = record {
+    → count ≡ length a.seats.items → count + 1 ≤ b.audit.spare → b.operations ≡ a.operations → b.records ≡ a.records → b.tree ≡ a.tree → b.dead ≡ a.dead → IsSketchOf b.tree.table b.sketch → Fits a → Fits b
+begins-fit a b x s seen count e seats commits counted room operations records tree dead sketch fits = record {
   operations = added b.operations a.operations (kept_operations b.audit.commits) (kept_operations a.audit.commits) (open_operations b.seats.items) (open_operations a.seats.items) operations fits.operations (ap kept_operations commits) (summed (λ (y : Session). length y.txn.ops + under_way y.stage));
   records = added b.records a.records (sum_by (λ c. records_told c.ops) b.audit.commits) (sum_by (λ c. records_told c.ops) a.audit.commits) _ _ records fits.records (ap (λ cs. sum_by (λ c. records_told c.ops) cs) commits) (summed (λ (y : Session). records_told y.txn.ops));
   endings = endings (open_transactions b.seats.items) (open_transactions a.seats.items) (length a.seats.items) count b.audit.spare opened_one (few-open a.seats.items) counted room;
   graves = subst (λ t. length (entries_of t.table) ≤ deque_capacity b.dead) (sym tree) (subst (λ d. length (entries_of a.tree.table) ≤ deque_capacity d) (sym dead) fits.graves);
+  sketch = sketch;
 }
   where
     sessions : b.seats.items ≡ with_session (opened a.next_txn s seen) a.seats.items

@@ -19,17 +19,19 @@ use Rattle.sp_model.specs.Stepped.{records_told}
 use Rattle.sp_state.proofs.Standing.{got_at}
 use Rattle.sp_state.specs.declared.state.State.{State}
 use Rattle.sp_state.specs.Held.{Fits}
+use Rattle.sp_state.specs.Sketches.{IsSketchOf}
 use Rattle.sp_requests.proofs.Begins.{few-open}
 use Rattle.sp_requests.proofs.Seating.{told_in}
 
 -- the ended transaction takes no more than the room that is made for it
 pub end-fits : (a b : State) (count room : ℕ) → b.seats ≡ a.seats → b.operations ≡ a.operations → b.records ≡ a.records → b.tree ≡ a.tree → b.dead ≡ a.dead → b.audit.commits ≡ a.audit.commits
-    → count ≡ length a.seats.items → count + 1 ≤ room → room ≤ b.audit.spare + 1 → Fits a → Fits b
-end-fits a b count room seats operations records tree dead commits counted made left fits = record {
+    → count ≡ length a.seats.items → count + 1 ≤ room → room ≤ b.audit.spare + 1 → IsSketchOf b.tree.table b.sketch → Fits a → Fits b
+end-fits a b count room seats operations records tree dead commits counted made left sketch fits = record {
   operations = operations ∙ fits.operations ∙ ap (λ (cs : List Commit). kept_operations cs + open_operations a.seats.items) (sym commits) ∙ ap (λ v. kept_operations b.audit.commits + open_operations v.items) (sym seats);
   records = records ∙ fits.records ∙ ap (λ (cs : List Commit). sum_by (λ c. records_told c.ops) cs + told_in a) (sym commits) ∙ ap (λ v. sum_by (λ c. records_told c.ops) b.audit.commits + sum_by (λ (y : Session). records_told y.txn.ops) (filter is_active v.items)) (sym seats);
   endings = subst (λ v. open_transactions v.items ≤ b.audit.spare) (sym seats) (enough (open_transactions a.seats.items) (length a.seats.items) count room b.audit.spare (few-open a.seats.items) counted made left);
   graves = subst (λ t. length (entries_of t.table) ≤ deque_capacity b.dead) (sym tree) (subst (λ d. length (entries_of a.tree.table) ≤ deque_capacity d) (sym dead) fits.graves);
+  sketch = sketch;
 }
   where
     enough : (active l n room spare : ℕ) → active ≤ l → n ≡ l → n + 1 ≤ room → room ≤ spare + 1 → active ≤ spare

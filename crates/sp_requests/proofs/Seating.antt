@@ -16,6 +16,7 @@ use Rattle.sp_model.proofs.Limits.{staged-sum, staged-open}
 use Rattle.sp_state.proofs.Standing.{with_change-set, got_at}
 use Rattle.sp_state.specs.declared.state.State.{State}
 use Rattle.sp_state.specs.Held.{Fits}
+use Rattle.sp_state.specs.Sketches.{IsSketchOf}
 
 -- the session stands at the place, and it is the one of the number
 pub record StandsAt (s : ℕ) (xs : List Session) (at : ℕ) (x : Session) : Type 0 where
@@ -50,13 +51,14 @@ told_in c = sum_by (λ (y : Session). records_told y.txn.ops) (filter is_active 
 -- a state whose session is at another stage, and whose count of operations follows it
 pub staged-fits : (a b : State) (x : Session) (stage : Stage) → AreAscending a.seats.items → Among x a.seats.items → is_active x ≡ true → is_active_stage stage ≡ true
     → b.seats.items ≡ staged x.txn.session stage a.seats.items → b.operations + under_way x.stage ≡ a.operations + under_way stage
-    → b.records ≡ a.records → b.audit ≡ a.audit → b.tree ≡ a.tree → b.dead ≡ a.dead → Fits a → Fits b
-staged-fits a b x stage ascending here active active' seats count records audit tree dead fits = record {
+    → b.records ≡ a.records → b.audit ≡ a.audit → b.tree ≡ a.tree → b.dead ≡ a.dead → IsSketchOf b.tree.table b.sketch → Fits a → Fits b
+staged-fits a b x stage ascending here active active' seats count records audit tree dead sketch fits = record {
   operations = operations b.operations a.operations (under_way x.stage) (under_way stage) (length x.txn.ops) (kept_operations a.audit.commits) (kept_operations b.audit.commits) (open_operations a.seats.items) (open_operations b.seats.items)
       count fits.operations (ap (λ h. kept_operations h.commits) audit) (ap (λ n. n + (length x.txn.ops + under_way x.stage)) (ap open_operations seats) ∙ staged-sum (λ (y : Session). length y.txn.ops + under_way y.stage) x stage a.seats.items ascending here active active');
   records = records ∙ fits.records ∙ ap (λ n. sum_by (λ c. records_told c.ops) a.audit.commits + n) (sym told) ∙ ap (λ h. sum_by (λ c. records_told c.ops) h.commits + told_in b) (sym audit);
   endings = subst (λ h. open_transactions b.seats.items ≤ h.spare) (sym audit) (subst (λ n. n ≤ a.audit.spare) (sym (ap open_transactions seats ∙ staged-open x stage a.seats.items ascending here active active')) fits.endings);
   graves = subst (λ t. length (entries_of t.table) ≤ deque_capacity b.dead) (sym tree) (subst (λ d. length (entries_of a.tree.table) ≤ deque_capacity d) (sym dead) fits.graves);
+  sketch = sketch;
 }
   where
     told : told_in b ≡ told_in a

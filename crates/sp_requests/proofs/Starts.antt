@@ -15,6 +15,7 @@ use Rattle.sp_model.specs.Soundness.{Sound}
 use Rattle.sp_model.proofs.Turned.{may_start}
 use Rattle.sp_state.specs.declared.state.State.{State}
 use Rattle.sp_state.specs.Held.{kernel_of, Fits}
+use Rattle.sp_state.specs.Sketches.{IsSketchOf}
 use Rattle.sp_requests.proofs.Seating.{StandsAt, staged-set, staged-fits}
 
 pub starts-done : (k : Kernel) (s : ℕ) (op : Op) (at : ℕ) (x y : Session) → Sound k → HasRectangle op → StandsAt s k.sessions at x → y ≡ at_stage (Started op) x
@@ -25,7 +26,7 @@ starts-done k s op at x y sound rect stands e =
 
 -- the operation is counted
 pub starts-fit : (a b : State) (s : ℕ) (op : Op) (at : ℕ) (x y : Session) → Sound (kernel_of a) → turned_away (kernel_of a) (Start s op) ≡ None → StandsAt s a.seats.items at x → y ≡ at_stage (Started op) x
-    → b.seats.items ≡ slice_set a.seats.items at y → b.operations ≡ a.operations + 1 → b.records ≡ a.records → b.audit ≡ a.audit → b.tree ≡ a.tree → b.dead ≡ a.dead → Fits a → Fits b
+    → b.seats.items ≡ slice_set a.seats.items at y → b.operations ≡ a.operations + 1 → b.records ≡ a.records → b.audit ≡ a.audit → b.tree ≡ a.tree → b.dead ≡ a.dead → IsSketchOf b.tree.table b.sketch → Fits a → Fits b
 starts-fit a b s op at x y sound goes stands e seats count =
     staged-fits a b x (Started op) sound.sessions.ascending stands.among (ap is_active_stage idle) refl (seats ∙ staged-set s a.seats.items at x y (Started op) sound.sessions.ascending stands e) (counted b.operations a.operations (under_way x.stage) count (ap under_way idle))
   where

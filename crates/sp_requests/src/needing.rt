@@ -9,6 +9,7 @@ ghost use Rattle.sp_txn.specs.Visible.{view};
 ghost use Rattle.sp_protection.specs.Effects.{fresh};
 ghost use Rattle.sp_model.specs.Plans.{adds, is_adding, HasNeeds};
 ghost use Rattle.sp_state.specs.Held.{kernel_of};
+ghost use Rattle.sp_state.specs.Sketches.{IsSketchOf};
 
 use sp_grow::choose_leaf;
 use sp_insertion::plan_insertion;
@@ -18,14 +19,15 @@ use sp_needs::short_needs;
 use sp_node::{Draft, Ended, Entry, Made, Marks, Tree};
 use sp_ops::{commit_needs, effect};
 use sp_rect::{Op, Record, Reply};
-use sp_state::{Seat, State};
+use sp_state::{Seat, Sketch, State};
 use std::alloc::{AllocError, Global};
 
-/// The commit needs and the short needs of an operation.
+/// The commit needs and the short needs of an operation, and the insertion that was planned for them.
 #[derive(Drop)]
 pub(crate) struct Asking {
     pub commit: Needs,
     pub short: Needs,
+    pub sketch: Option<Sketch>,
 }
 
 // Whether the operation is a put that finds no record of its id. Costs the entries of that id.
@@ -65,12 +67,14 @@ fn fresh(alloc: Global, txn: u64, number: u64, added: &Record) -> Result<Entry, 
 // The needs of an operation that adds no entry.
 fn stay_needs(alloc: Global, state: &State, seat: &Seat, op: &Op) -> Result<Asking, AllocError>
     requires { is_adding (kernel_of state.now) seat.now op.now ≡ false }
-    ensures { IfOk result (λ asking. HasNeeds (kernel_of state.now) seat.now op.now asking.commit asking.short) }
+    ensures needs { IfOk result (λ asking. HasNeeds (kernel_of state.now) seat.now op.now asking.commit asking.short) }
+    ensures sketch { IfOk result (λ asking. IsSketchOf state.now.tree.table asking.sketch) }
 {
     let commit = commit_needs(alloc, &state.tree, None, op, seat.number(), seat.searches())?;
     Ok(Asking {
         commit,
         short: Needs::new(alloc),
+        sketch: None,
     })
 }
 
@@ -86,9 +90,11 @@ fn put_needs(
     requires adding { is_adding (kernel_of state.now) seat.now (APut added.now) ≡ true }
     requires fresh { leaf_with state.now.tree.table.nodes state.now.next_entry ≡ None }
     requires numbers { state.now.tree.table.next < 2 ^ 63 + 2 ^ 32 }
-    ensures { IfOk result (λ asking. HasNeeds (kernel_of state.now) seat.now (APut added.now) asking.commit asking.short) }
+    ensures needs { IfOk result (λ asking. HasNeeds (kernel_of state.now) seat.now (APut added.now) asking.commit asking.short) }
+    ensures sketch { IfOk result (λ asking. IsSketchOf state.now.tree.table asking.sketch) }
 {
     let entry = fresh(alloc, seat.number(), state.next_entry, added)?;
+    let kept = entry.copy(alloc)?;
     let plan = plan_insertion(alloc, &state.tree, entry)?;
     let chosen = choose_leaf(&state.tree, &added.rect);
     let commit = commit_needs(
@@ -100,11 +106,15 @@ fn put_needs(
         seat.searches(),
     )?;
     let short = short_needs(alloc, &state.tree, &plan, Some(chosen))?;
-    Ok(Asking { commit, short })
+    Ok(Asking {
+        commit,
+        short,
+        sketch: Some(Sketch { entry: kept, plan }),
+    })
 }
 
-/// The needs of the operation of the session in the present tree. The tree that a put would leave is planned,
-/// and thrown away. Costs what `commit_needs` costs; of a put also the entries of its id, and where it adds an
+/// The needs of the operation of the session in the present tree. The insertion of a put that adds an
+/// entry is planned, and handed out as well. Costs what `commit_needs` costs; of a put also the entries of its id, and where it adds an
 /// entry what `grow` and `short_needs` cost.
 pub(crate) fn needs(
     alloc: Global,
@@ -115,7 +125,8 @@ pub(crate) fn needs(
     requires ordered { IsOrdered (view (entries_of state.now.tree.table) seat.now.txn.number) }
     requires fresh { leaf_with state.now.tree.table.nodes state.now.next_entry ≡ None }
     requires numbers { state.now.tree.table.next < 2 ^ 63 + 2 ^ 32 }
-    ensures { IfOk result (λ asking. HasNeeds (kernel_of state.now) seat.now op.now asking.commit asking.short) }
+    ensures needs { IfOk result (λ asking. HasNeeds (kernel_of state.now) seat.now op.now asking.commit asking.short) }
+    ensures sketch { IfOk result (λ asking. IsSketchOf state.now.tree.table asking.sketch) }
 {
     let is_adding = adds(alloc, &state.tree, op, seat.number())?;
     match op {

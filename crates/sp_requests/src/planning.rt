@@ -7,6 +7,7 @@ ghost use Rattle.sp_model.specs.Removal.{IsTakenOut};
 ghost use Rattle.sp_model.specs.Soundness.{Sound};
 ghost use Rattle.sp_model.specs.Stepped.{Does};
 ghost use Rattle.sp_state.specs.Held.{kernel_of, Fits};
+ghost use Rattle.sp_state.specs.Sketches.{IsSketchOf};
 ghost use Rattle.sp_state.specs.Stages.{op_of};
 ghost use Rattle.sp_requests.specs.Wanted.{IsLeft};
 
@@ -15,30 +16,42 @@ use crate::needing::needs;
 use crate::places::place_in;
 use sp_event::{Answer, Event};
 use sp_locks::{Needs, SessionId};
-use sp_state::{Seat, State};
+use sp_state::{Seat, Sketch, State};
 use std::alloc::{AllocError, Global};
 
+// The needs that are left to ask, and the insertion that was planned for them.
+#[derive(Drop)]
+struct Left {
+    needs: Needs,
+    sketch: Option<Sketch>,
+}
+
 // The needs of the session's operation that are left to ask.
-fn left_of(alloc: Global, state: &State, seat: &Seat) -> Result<Needs, AllocError>
+fn left_of(alloc: Global, state: &State, seat: &Seat) -> Result<Left, AllocError>
     requires sound { Sound (kernel_of state.now) }
     requires among { Among seat.now state.now.seats.items }
     requires active { is_active seat.now ≡ true }
     requires under_way { op_of seat.now.stage ≢ None }
-    ensures { IfOk result (IsLeft (kernel_of state.now) seat.now) }
+    ensures left { IfOk result (λ left. IsLeft (kernel_of state.now) seat.now left.needs) }
+    ensures sketch { IfOk result (λ left. IsSketchOf state.now.tree.table left.sketch) }
 {
     let Some(op) = seat.op() else { unreachable!() };
     let asking = needs(alloc, state, seat, op)?;
-    left_to_ask(
+    let needs = left_to_ask(
         alloc,
         &state.locks,
         seat.session(),
         asking.commit.as_slice(),
         asking.short.as_slice(),
-    )
+    )?;
+    Ok(Left {
+        needs,
+        sketch: asking.sketch,
+    })
 }
 
 /// The session's operation is planned: it takes the latch, and what it needs in the present tree is left to ask,
-/// but for what locks cover that the session holds to its end. `Planned` tells how many locks are left. Where
+/// but for what locks cover that the session holds to its end. The insertion of a put's entry is kept. `Planned` tells how many locks are left. Where
 /// there is no memory nothing has changed. Costs the sessions that have a transaction, what the needs of the
 /// operation cost, and for each of them the rows on its name.
 pub fn plan(alloc: Global, state: &mut State, session: SessionId) -> Result<Answer, AllocError>
@@ -51,8 +64,9 @@ pub fn plan(alloc: Global, state: &mut State, session: SessionId) -> Result<Answ
 {
     let at = place_in(state.seats.as_slice(), session);
     let left = left_of(alloc, state, &state.seats[at])?;
-    let count = left.len() as u64;
+    let count = left.needs.len() as u64;
     let seat = &mut state.seats[at];
-    seat.plan(left);
+    seat.plan(left.needs);
+    state.sketch = left.sketch;
     Ok(Answer::Planned(count))
 }

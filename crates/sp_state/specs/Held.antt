@@ -9,6 +9,7 @@ use Rattle.sp_event.specs.declared.answer.Answer.{Answer}
 use Rattle.sp_event.specs.declared.answer.Answer.TheVariants.{Full, LatchBusy}
 use Rattle.sp_event.specs.declared.answer.Kind.{Kind}
 use Rattle.sp_state.specs.declared.state.State.{State}
+use Rattle.sp_state.specs.Sketches.{IsSketchOf}
 
 -- the kernel that the state stands for
 abbrev pub kernel_of : State → Kernel
@@ -28,12 +29,13 @@ kernel_of s = record {
   stopped = s.stopped;
 }
 
--- the counters are right, the audit has room for the end of each open transaction, and the dead list for each entry
+-- the counters are right, the audit has room for the end of each open transaction, the dead list for each entry, and the sketch is one of the tree
 pub record Fits (s : State) : Type 0 where
   pub operations : s.operations ≡ kept_operations s.audit.commits + open_operations s.seats.items
   pub records : s.records ≡ kept_records (kernel_of s)
   pub endings : open_transactions s.seats.items ≤ s.audit.spare
   pub graves : length (entries_of s.tree.table) ≤ deque_capacity s.dead
+  pub sketch : IsSketchOf s.tree.table s.sketch
 
 -- the answer at a limit
 abbrev pub kind_answer : Option Kind → Option Answer

@@ -7,10 +7,12 @@ mod limits;
 mod refusals;
 mod seat;
 mod seats;
+mod sketch;
 mod state;
 mod unchanged;
 
 pub use seat::Seat;
 pub use seats::{admit, dismiss, place_of};
+pub use sketch::{Sketch, take_plan};
 pub use state::State;
 pub use unchanged::turned_away;

@@ -12,4 +12,4 @@ returns-clause-over c x op ready =
 
 pub returns-clause-fits : goal.returns-clause-fits
 returns-clause-fits c =
-    rested_fits c.args.state.now c.args.session c.args.at c.requires.ready.0 c.requires.ready.1 c.requires.sound c.requires.fits c.requires.ready.2 _ (c.rest.ensures c.requires.ready.0 c.requires.ready.2.stands) refl refl refl refl refl
+    rested_fits c.args.state.now c.args.session c.args.at c.requires.ready.0 c.requires.ready.1 c.requires.sound c.requires.fits c.requires.ready.2 _ (c.rest.ensures c.requires.ready.0 c.requires.ready.2.stands) refl refl refl refl refl c.requires.fits.sketch

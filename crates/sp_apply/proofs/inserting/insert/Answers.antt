@@ -46,4 +46,4 @@ returns-clause-fits c =
     let room = c.in_ok-make_graves.ensures.room in
     let all = c.len.ensures in
     let same = ap (λ (t : Table). length (entries_of t)) c.in_ok-make_room.ensures.table in
-    kept_fits s c.args.session c.args.at x (Put r) c.requires.sound c.requires.fits ready Done _ (c.in_ok-keep.ensures.ok x (Put r) [] ready.stands ready.planned) refl (omega (arith, many, more, room, all, same)) refl (omega arith)
+    kept_fits s c.args.session c.args.at x (Put r) c.requires.sound c.requires.fits ready Done _ (c.in_ok-keep.ensures.ok x (Put r) [] ready.stands ready.planned) refl (omega (arith, many, more, room, all, same)) refl (omega arith) tt

@@ -34,8 +34,8 @@ fresh_entry-requires c =
     let ready = c.requires.ready.2 in
     (r, op_here x c.index.result.now (Put r) (seat_is c.args.state.now.seats.items c.args.at x c.index.result.now c.index.ensures ready.stands) ready.planned)
 
-pub plan_insertion-requires-clause-fresh : goal.plan_insertion-requires-clause-fresh
-plan_insertion-requires-clause-fresh c =
+pub plan_of-requires-clause-fresh : goal.plan_of-requires-clause-fresh
+plan_of-requires-clause-fresh c =
     let k = kernel_of c.args.state.now in
     let x = c.requires.ready.0 in
     let r = c.requires.ready.1 in

@@ -56,3 +56,4 @@ returns-clause-fits c =
     let room = c.requires.fits.graves in
     kept_fits s c.args.session c.args.at x op c.requires.sound c.requires.fits ready c.args.effect.reply _ (c.in_ok-keep.ensures.ok x op [] ready.stands ready.planned) refl (omega (arith, many, room)) refl
     (ap (λ (n : ℕ). s.records + n) c.records_in-count.ensures.count)
+    tt

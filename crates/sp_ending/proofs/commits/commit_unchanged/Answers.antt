@@ -94,4 +94,4 @@ returns-clause-fits c =
     let active = ap is_active_stage idle in
     fits-committed s _ x c.into_commit.result c.requires.fits (ap under_way idle)
     (λ f. subst (λ (xs : List Session). sum-of f xs + f x ≡ sum-of f s.seats.items) (sym c.dismiss-seat.ensures.others) (goes-without s.seats.items x c.requires.sound.sessions.ascending here.here active f))
-    c.add.ensures.commits (ap (λ (d : AnyCommit). d.ops) c.into_commit.ensures) c.add.ensures.room refl refl c.end_marks.ensures.room
+    c.add.ensures.commits (ap (λ (d : AnyCommit). d.ops) c.into_commit.ensures) c.add.ensures.room refl refl c.end_marks.ensures.room tt

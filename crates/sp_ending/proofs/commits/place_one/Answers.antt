@@ -91,4 +91,4 @@ returns-clause-fits c =
     let sessions = ap (slice_set s.seats.items c.in-Some.at) c.take_place-commit.ensures.placed ∙ with_change-set s.seats.items c.in-Some.at x at_place may.ascending got in
     fits-committed s _ x c.take_place-commit.result c.requires.fits (subst (λ (z : Session). under_way z.stage ≡ 0) same may.quiet)
     (λ f. subst (λ (xs : List Session). sum-of f xs + f x ≡ sum-of f s.seats.items) (sym sessions) (goes-placed s.seats.items x may.ascending here.here active f))
-    c.add.ensures.commits (ap (λ (d : AnyCommit). d.ops) c.take_place-commit.ensures.commit) c.add.ensures.room refl refl c.end_marks.ensures.room
+    c.add.ensures.commits (ap (λ (d : AnyCommit). d.ops) c.take_place-commit.ensures.commit) c.add.ensures.room refl refl c.end_marks.ensures.room tt

@@ -46,4 +46,4 @@ returns-clause-fits c =
     let active = ap is_active_stage idle in
     fits-changed s seat c.requires.fits c.requires.sound.sessions.ascending (got-among s.seats.items c.in-Some.at seat got) (at_stage Queued) _
     (rw (active, idle) refl) (rw active refl) (rw active refl)
-    (ap (slice_set s.seats.items c.in-Some.at) c.rest.ensures ∙ with_change-set s.seats.items c.in-Some.at seat (at_stage Queued) c.requires.sound.sessions.ascending got) refl refl refl refl refl
+    (ap (slice_set s.seats.items c.in-Some.at) c.rest.ensures ∙ with_change-set s.seats.items c.in-Some.at seat (at_stage Queued) c.requires.sound.sessions.ascending got) refl refl refl refl refl c.requires.fits.sketch

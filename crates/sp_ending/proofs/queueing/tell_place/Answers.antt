@@ -36,4 +36,4 @@ returns-in-Some-clause-fits c =
     let x = found-there c.args.session c.in-Some.at s.seats.items c.as_slice.result.now c.as_slice.ensures.value c.in-Some.ensures.found c.in-Some.ensures.bound in
     let same = one-got s.seats.items c.in-Some.at seat x.0 c.dismiss-seat.ensures.one x.1 in
     fits-told s seat c.requires.fits c.requires.sound.sessions.ascending (got-among s.seats.items c.in-Some.at seat c.dismiss-seat.ensures.one) _
-    (ap is_active_stage (ap (λ (y : Session). y.stage) same ∙ c.requires.placed x.0 x.2)) c.dismiss-seat.ensures.others refl refl refl refl refl
+    (ap is_active_stage (ap (λ (y : Session). y.stage) same ∙ c.requires.placed x.0 x.2)) c.dismiss-seat.ensures.others refl refl refl refl refl c.requires.fits.sketch

@@ -65,3 +65,4 @@ returns-clause-fits c =
     fits-cleaned s _ c.requires.fits refl refl refl refl
     (subst (λ (t : Table). length (entries_of t) ≤ length (entries_of s.tree.table)) (sym is) few)
     (let e = c.pop_front-first.ensures.capacity in omega (arith, e))
+    tt

@@ -59,4 +59,4 @@ returns-clause-fits c =
     let x = c.dismiss-seat.result in
     let one = c.dismiss-seat.ensures.one in
     fits-without s x c.requires.fits c.requires.may.ascending (got-among s.seats.items c.args.at x one) (c.requires.active x one) _
-    c.dismiss-seat.ensures.others refl c.lower.ensures.operations c.lower.ensures.records c.end_marks.ensures.room
+    c.dismiss-seat.ensures.others refl c.lower.ensures.operations c.lower.ensures.records c.end_marks.ensures.room tt

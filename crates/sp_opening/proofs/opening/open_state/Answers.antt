@@ -11,4 +11,4 @@ returns-clause-fits c =
     let many = as_many c.args.shape c.args.records c.in_ok-tree.tree.table c.requires.shape c.requires.ordered c.requires.few built in
     let room = c.in_ok-dead.ensures.capacity in
     let all = c.len.ensures.len in
-    first_fits _ c.new-2.ensures.items c.new-5.ensures.commits refl refl (omega (arith, many, room, all))
+    first_fits _ c.new-2.ensures.items c.new-5.ensures.commits refl refl (omega (arith, many, room, all)) tt

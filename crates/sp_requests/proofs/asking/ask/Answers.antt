@@ -22,7 +22,7 @@ returns-in-Granted-clause-done c =
 
 pub returns-in-Granted-clause-fits : goal.returns-in-Granted-clause-fits
 returns-in-Granted-clause-fits c =
-    moved-fits asked asked-keeps c.args.state.now _ c.args.session c.place_in-at.result c.index_mut-seat.result.now c.pass_need.new.self c.requires.sound (stands_at c.args.session c.args.state.now.seats.items c.as_slice.result.now c.place_in-at.result c.index_mut-seat.result.now c.as_slice.ensures.value c.place_in-at.ensures.bound c.place_in-at.ensures.found c.index_mut-seat.ensures.value) (may-ask c.index_mut-seat.result.now c.in-Some.need (sym (c.next_need.ensures ∙ ap next_need c.stage.ensures) ∙ c.in-Some.is)) c.pass_need.ensures refl refl refl refl refl refl c.requires.fits
+    moved-fits asked asked-keeps c.args.state.now _ c.args.session c.place_in-at.result c.index_mut-seat.result.now c.pass_need.new.self c.requires.sound (stands_at c.args.session c.args.state.now.seats.items c.as_slice.result.now c.place_in-at.result c.index_mut-seat.result.now c.as_slice.ensures.value c.place_in-at.ensures.bound c.place_in-at.ensures.found c.index_mut-seat.ensures.value) (may-ask c.index_mut-seat.result.now c.in-Some.need (sym (c.next_need.ensures ∙ ap next_need c.stage.ensures) ∙ c.in-Some.is)) c.pass_need.ensures refl refl refl refl refl refl c.requires.fits.sketch c.requires.fits
 
 pub returns-in-Waits-clause-done : goal.returns-in-Waits-clause-done
 returns-in-Waits-clause-done c =
@@ -30,7 +30,7 @@ returns-in-Waits-clause-done c =
 
 pub returns-in-Waits-clause-fits : goal.returns-in-Waits-clause-fits
 returns-in-Waits-clause-fits c =
-    moved-fits awaiting_need awaiting_need-keeps c.args.state.now _ c.args.session c.place_in-at.result c.index_mut-seat.result.now c.await_need.new.self c.requires.sound (stands_at c.args.session c.args.state.now.seats.items c.as_slice.result.now c.place_in-at.result c.index_mut-seat.result.now c.as_slice.ensures.value c.place_in-at.ensures.bound c.place_in-at.ensures.found c.index_mut-seat.ensures.value) (may-ask c.index_mut-seat.result.now c.in-Some.need (sym (c.next_need.ensures ∙ ap next_need c.stage.ensures) ∙ c.in-Some.is)) c.await_need.ensures refl refl refl refl refl refl c.requires.fits
+    moved-fits awaiting_need awaiting_need-keeps c.args.state.now _ c.args.session c.place_in-at.result c.index_mut-seat.result.now c.await_need.new.self c.requires.sound (stands_at c.args.session c.args.state.now.seats.items c.as_slice.result.now c.place_in-at.result c.index_mut-seat.result.now c.as_slice.ensures.value c.place_in-at.ensures.bound c.place_in-at.ensures.found c.index_mut-seat.ensures.value) (may-ask c.index_mut-seat.result.now c.in-Some.need (sym (c.next_need.ensures ∙ ap next_need c.stage.ensures) ∙ c.in-Some.is)) c.await_need.ensures refl refl refl refl refl refl c.requires.fits.sketch c.requires.fits
 
 pub returns-in-Closes-clause-done : goal.returns-in-Closes-clause-done
 returns-in-Closes-clause-done c =

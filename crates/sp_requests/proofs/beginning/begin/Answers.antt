@@ -10,4 +10,4 @@ returns-clause-done c =
 
 pub returns-clause-fits : goal.returns-clause-fits
 returns-clause-fits c =
-    begins-fit c.args.state.now _ c.new.result c.args.session (length c.commits.result.now) c.len.result c.new.ensures c.in_ok-admit.ensures c.reserve.ensures.commits (search rules) c.in_ok-reserve.ensures.room refl refl refl refl c.requires.fits
+    begins-fit c.args.state.now _ c.new.result c.args.session (length c.commits.result.now) c.len.result c.new.ensures c.in_ok-admit.ensures c.reserve.ensures.commits (search rules) c.in_ok-reserve.ensures.room refl refl refl refl c.requires.fits.sketch c.requires.fits

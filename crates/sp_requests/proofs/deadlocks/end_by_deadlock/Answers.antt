@@ -6,7 +6,7 @@ use Rattle.sp_requests.proofs.deadlocks.end_by_deadlock.Goals as goal
 
 pub roll_back-requires-clause-fits : goal.roll_back-requires-clause-fits
 roll_back-requires-clause-fits c =
-    end-fits c.args.state.now _ c.len.result c.reserve.new.self.spare refl refl refl refl refl (c.end.ensures.commits ∙ c.reserve.ensures.commits) (search rules) c.in_ok-reserve.ensures.room c.end.ensures.room c.requires.fits
+    end-fits c.args.state.now _ c.len.result c.reserve.new.self.spare refl refl refl refl refl (c.end.ensures.commits ∙ c.reserve.ensures.commits) (search rules) c.in_ok-reserve.ensures.room c.end.ensures.room c.requires.fits.sketch c.requires.fits
 
 pub returns-clause-done : goal.returns-clause-done
 returns-clause-done c = λ x got.

@@ -14,7 +14,7 @@ returns-in_default-clause-done c =
 
 pub returns-in_default-clause-fits : goal.returns-in_default-clause-fits
 returns-in_default-clause-fits c =
-    moved-fits named named-keeps c.args.state.now _ c.args.session c.place_in-at.result c.index_mut-seat.result.now c.name.new.self c.requires.sound (stands_at c.args.session c.args.state.now.seats.items c.as_slice.result.now c.place_in-at.result c.index_mut-seat.result.now c.as_slice.ensures.value c.place_in-at.ensures.bound c.place_in-at.ensures.found c.index_mut-seat.ensures.value) (may-name (kernel_of c.args.state.now) c.args.session c.place_in-at.result c.index_mut-seat.result.now (stands_at c.args.session c.args.state.now.seats.items c.as_slice.result.now c.place_in-at.result c.index_mut-seat.result.now c.as_slice.ensures.value c.place_in-at.ensures.bound c.place_in-at.ensures.found c.index_mut-seat.ensures.value) c.requires.goes) c.name.ensures refl refl refl refl refl refl c.requires.fits
+    moved-fits named named-keeps c.args.state.now _ c.args.session c.place_in-at.result c.index_mut-seat.result.now c.name.new.self c.requires.sound (stands_at c.args.session c.args.state.now.seats.items c.as_slice.result.now c.place_in-at.result c.index_mut-seat.result.now c.as_slice.ensures.value c.place_in-at.ensures.bound c.place_in-at.ensures.found c.index_mut-seat.ensures.value) (may-name (kernel_of c.args.state.now) c.args.session c.place_in-at.result c.index_mut-seat.result.now (stands_at c.args.session c.args.state.now.seats.items c.as_slice.result.now c.place_in-at.result c.index_mut-seat.result.now c.as_slice.ensures.value c.place_in-at.ensures.bound c.place_in-at.ensures.found c.index_mut-seat.ensures.value) c.requires.goes) c.name.ensures refl refl refl refl refl refl c.requires.fits.sketch c.requires.fits
 
 pub end_by_deadlock-requires-clause-sound : goal.end_by_deadlock-requires-clause-sound
 end_by_deadlock-requires-clause-sound c =
@@ -26,7 +26,7 @@ returns-in-Granted-clause-done c =
 
 pub returns-in-Granted-clause-fits : goal.returns-in-Granted-clause-fits
 returns-in-Granted-clause-fits c =
-    moved-fits named named-keeps c.args.state.now _ c.args.session c.place_in-at.result c.index_mut-seat.result.now c.name-in-Granted.new.self c.requires.sound (stands_at c.args.session c.args.state.now.seats.items c.as_slice.result.now c.place_in-at.result c.index_mut-seat.result.now c.as_slice.ensures.value c.place_in-at.ensures.bound c.place_in-at.ensures.found c.index_mut-seat.ensures.value) (may-name (kernel_of c.args.state.now) c.args.session c.place_in-at.result c.index_mut-seat.result.now (stands_at c.args.session c.args.state.now.seats.items c.as_slice.result.now c.place_in-at.result c.index_mut-seat.result.now c.as_slice.ensures.value c.place_in-at.ensures.bound c.place_in-at.ensures.found c.index_mut-seat.ensures.value) c.requires.goes) c.name-in-Granted.ensures refl refl refl refl refl refl c.requires.fits
+    moved-fits named named-keeps c.args.state.now _ c.args.session c.place_in-at.result c.index_mut-seat.result.now c.name-in-Granted.new.self c.requires.sound (stands_at c.args.session c.args.state.now.seats.items c.as_slice.result.now c.place_in-at.result c.index_mut-seat.result.now c.as_slice.ensures.value c.place_in-at.ensures.bound c.place_in-at.ensures.found c.index_mut-seat.ensures.value) (may-name (kernel_of c.args.state.now) c.args.session c.place_in-at.result c.index_mut-seat.result.now (stands_at c.args.session c.args.state.now.seats.items c.as_slice.result.now c.place_in-at.result c.index_mut-seat.result.now c.as_slice.ensures.value c.place_in-at.ensures.bound c.place_in-at.ensures.found c.index_mut-seat.ensures.value) c.requires.goes) c.name-in-Granted.ensures refl refl refl refl refl refl c.requires.fits.sketch c.requires.fits
 
 pub returns-in-Waits-clause-done : goal.returns-in-Waits-clause-done
 returns-in-Waits-clause-done c =
@@ -34,7 +34,7 @@ returns-in-Waits-clause-done c =
 
 pub returns-in-Waits-clause-fits : goal.returns-in-Waits-clause-fits
 returns-in-Waits-clause-fits c =
-    moved-fits awaiting_name awaiting_name-keeps c.args.state.now _ c.args.session c.place_in-at.result c.index_mut-seat.result.now c.await_name.new.self c.requires.sound (stands_at c.args.session c.args.state.now.seats.items c.as_slice.result.now c.place_in-at.result c.index_mut-seat.result.now c.as_slice.ensures.value c.place_in-at.ensures.bound c.place_in-at.ensures.found c.index_mut-seat.ensures.value) (may-name (kernel_of c.args.state.now) c.args.session c.place_in-at.result c.index_mut-seat.result.now (stands_at c.args.session c.args.state.now.seats.items c.as_slice.result.now c.place_in-at.result c.index_mut-seat.result.now c.as_slice.ensures.value c.place_in-at.ensures.bound c.place_in-at.ensures.found c.index_mut-seat.ensures.value) c.requires.goes) c.await_name.ensures refl refl refl refl refl refl c.requires.fits
+    moved-fits awaiting_name awaiting_name-keeps c.args.state.now _ c.args.session c.place_in-at.result c.index_mut-seat.result.now c.await_name.new.self c.requires.sound (stands_at c.args.session c.args.state.now.seats.items c.as_slice.result.now c.place_in-at.result c.index_mut-seat.result.now c.as_slice.ensures.value c.place_in-at.ensures.bound c.place_in-at.ensures.found c.index_mut-seat.ensures.value) (may-name (kernel_of c.args.state.now) c.args.session c.place_in-at.result c.index_mut-seat.result.now (stands_at c.args.session c.args.state.now.seats.items c.as_slice.result.now c.place_in-at.result c.index_mut-seat.result.now c.as_slice.ensures.value c.place_in-at.ensures.bound c.place_in-at.ensures.found c.index_mut-seat.ensures.value) c.requires.goes) c.await_name.ensures refl refl refl refl refl refl c.requires.fits.sketch c.requires.fits
 
 pub returns-in-Closes-clause-done : goal.returns-in-Closes-clause-done
 returns-in-Closes-clause-done c =

@@ -19,10 +19,10 @@ left_of-requires-clause-under_way c = has-operation c.index.result.now.stage (pl
 
 pub returns-clause-done : goal.returns-clause-done
 returns-clause-done c =
-    plans-done (kernel_of c.args.state.now) c.args.session c.place_in-at.result c.index_mut-seat.result.now c.plan.new.self c.in_ok-left.left c.len-count.result c.requires.sound c.requires.goes (stands_at c.args.session c.args.state.now.seats.items c.as_slice.result.now c.place_in-at.result c.index_mut-seat.result.now c.as_slice.ensures.value c.place_in-at.ensures.bound c.place_in-at.ensures.found c.index_mut-seat.ensures.value)
-    (subst (λ (x : Session). IsLeft (kernel_of c.args.state.now) x c.in_ok-left.left) (one-standing c.args.session c.args.state.now.seats.items c.place_in-at.result c.index.result.now c.index_mut-seat.result.now (stands_at c.args.session c.args.state.now.seats.items c.as_slice.result.now c.place_in-at.result c.index.result.now c.as_slice.ensures.value c.place_in-at.ensures.bound c.place_in-at.ensures.found c.index.ensures) (stands_at c.args.session c.args.state.now.seats.items c.as_slice.result.now c.place_in-at.result c.index_mut-seat.result.now c.as_slice.ensures.value c.place_in-at.ensures.bound c.place_in-at.ensures.found c.index_mut-seat.ensures.value)) c.in_ok-left.ensures) c.len-count.ensures.len c.plan.ensures
+    plans-done (kernel_of c.args.state.now) c.args.session c.place_in-at.result c.index_mut-seat.result.now c.plan.new.self c.in_ok-left.left.needs c.len-count.result c.requires.sound c.requires.goes (stands_at c.args.session c.args.state.now.seats.items c.as_slice.result.now c.place_in-at.result c.index_mut-seat.result.now c.as_slice.ensures.value c.place_in-at.ensures.bound c.place_in-at.ensures.found c.index_mut-seat.ensures.value)
+    (subst (λ (x : Session). IsLeft (kernel_of c.args.state.now) x c.in_ok-left.left.needs) (one-standing c.args.session c.args.state.now.seats.items c.place_in-at.result c.index.result.now c.index_mut-seat.result.now (stands_at c.args.session c.args.state.now.seats.items c.as_slice.result.now c.place_in-at.result c.index.result.now c.as_slice.ensures.value c.place_in-at.ensures.bound c.place_in-at.ensures.found c.index.ensures) (stands_at c.args.session c.args.state.now.seats.items c.as_slice.result.now c.place_in-at.result c.index_mut-seat.result.now c.as_slice.ensures.value c.place_in-at.ensures.bound c.place_in-at.ensures.found c.index_mut-seat.ensures.value)) c.in_ok-left.ensures.left) c.len-count.ensures.len c.plan.ensures
 
 pub returns-clause-fits : goal.returns-clause-fits
 returns-clause-fits c =
-    moved-fits (planned c.in_ok-left.left) (planned-keeps c.in_ok-left.left) c.args.state.now _ c.args.session c.place_in-at.result c.index_mut-seat.result.now c.plan.new.self c.requires.sound (stands_at c.args.session c.args.state.now.seats.items c.as_slice.result.now c.place_in-at.result c.index_mut-seat.result.now c.as_slice.ensures.value c.place_in-at.ensures.bound c.place_in-at.ensures.found c.index_mut-seat.ensures.value)
-    (may-plan c.index_mut-seat.result.now.stage (plan-let (kernel_of c.args.state.now) c.args.session c.place_in-at.result c.index_mut-seat.result.now (stands_at c.args.session c.args.state.now.seats.items c.as_slice.result.now c.place_in-at.result c.index_mut-seat.result.now c.as_slice.ensures.value c.place_in-at.ensures.bound c.place_in-at.ensures.found c.index_mut-seat.ensures.value) c.requires.goes)) c.plan.ensures refl refl refl refl refl refl c.requires.fits
+    moved-fits (planned c.in_ok-left.left.needs) (planned-keeps c.in_ok-left.left.needs) c.args.state.now _ c.args.session c.place_in-at.result c.index_mut-seat.result.now c.plan.new.self c.requires.sound (stands_at c.args.session c.args.state.now.seats.items c.as_slice.result.now c.place_in-at.result c.index_mut-seat.result.now c.as_slice.ensures.value c.place_in-at.ensures.bound c.place_in-at.ensures.found c.index_mut-seat.ensures.value)
+    (may-plan c.index_mut-seat.result.now.stage (plan-let (kernel_of c.args.state.now) c.args.session c.place_in-at.result c.index_mut-seat.result.now (stands_at c.args.session c.args.state.now.seats.items c.as_slice.result.now c.place_in-at.result c.index_mut-seat.result.now c.as_slice.ensures.value c.place_in-at.ensures.bound c.place_in-at.ensures.found c.index_mut-seat.ensures.value) c.requires.goes)) c.plan.ensures refl refl refl refl refl refl c.in_ok-left.ensures.sketch c.requires.fits

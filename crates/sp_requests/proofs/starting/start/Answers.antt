@@ -12,4 +12,4 @@ returns-clause-done c =
 pub returns-clause-fits : goal.returns-clause-fits
 returns-clause-fits c =
     starts-fit c.args.state.now _ c.args.session c.args.op c.place_in-at.result c.index_mut-seat.result.now c.start.new.self c.requires.sound c.requires.goes
-    (stands_at c.args.session c.args.state.now.seats.items c.as_slice.result.now c.place_in-at.result c.index_mut-seat.result.now c.as_slice.ensures.value c.place_in-at.ensures.bound c.place_in-at.ensures.found c.index_mut-seat.ensures.value) c.in_ok-start.ensures.ok refl refl refl refl refl refl c.requires.fits
+    (stands_at c.args.session c.args.state.now.seats.items c.as_slice.result.now c.place_in-at.result c.index_mut-seat.result.now c.as_slice.ensures.value c.place_in-at.ensures.bound c.place_in-at.ensures.found c.index_mut-seat.ensures.value) c.in_ok-start.ensures.ok refl refl refl refl refl refl c.requires.fits.sketch c.requires.fits
