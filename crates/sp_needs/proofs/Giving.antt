@@ -1,5 +1,5 @@
 -- Out of which leaves entries move.
-use Rattle.std.proofs.Common.{◌≡◌, ℕ, ◌<◌, Bool, true, false, cond, ◌||◌, ◌↔◌, List, [], ◌∷◌, Option, Some, None, map, refl, sym, ap, ◌∙◌, subst, inl, inr, arith}
+use Rattle.std.proofs.Common.{◌≡◌, ℕ, zero, suc, ◌<◌, Bool, true, false, cond, ◌||◌, ◌↔◌, List, [], ◌∷◌, length, get_or, Option, Some, None, map, refl, sym, ap, ◌∙◌, subst, inl, inr, arith}
 use Rattle.std.specs.Prelude.{nat_eq, MatchOption}
 use Rattle.std.specs.List.{flat_map}
 use Rattle.std.proofs.lemmas.Bool.Decides.{nat_tests}
@@ -11,7 +11,7 @@ use Rattle.sp_node.specs.declared.plan.Plan.{Plan}
 use Rattle.sp_node.specs.Among.{Among}
 use Rattle.sp_node.specs.Look.{look, entries_in, entries_of_node}
 use Rattle.sp_node.specs.Nested.{node}
-use Rattle.sp_node.specs.Index.{leaf_with}
+use Rattle.sp_node.specs.Index.{leaf_with, has_number}
 use Rattle.sp_node.specs.Plan.{number_of, content, with_parts, planned, IsMadeOf, AreOrdered}
 use Rattle.sp_node.specs.Table.{Table, IsValid, places_of, entries_of}
 use Rattle.sp_node.specs.Standing.{HasNoEntry, HasNoNode, IsNodeOf, IsLeafOf}
@@ -67,6 +67,16 @@ node_with_entry : (o : Option Node) (e : Entry) → Among e (entries_in o) → (
 node_with_entry None e a = absurd a
 node_with_entry (Some m) e a = (m, refl, a)
 
+-- what stands at a place is among the entries
+pub got_has : (es : List Entry) (at q : ℕ) (e : Entry) → at < length es → e ≡ get_or es at e → nat_eq e.number q ≡ true → has_number es q ≡ true
+got_has [] at q e l g h = absurd (omega (arith, l))
+got_has (x ∷ xs) zero q e l g h = ap (λ (b : Bool). b || has_number xs q) (ap (λ (n : ℕ). nat_eq q n) (sym (ap (λ (y : Entry). y.number) g) ∙ equal_from e.number q h) ∙ self_equal q)
+got_has (x ∷ xs) (suc at) q e l g h = ap (λ (b : Bool). nat_eq q x.number || b) (got_has xs at q e (omega (arith, l)) g h) ∙ either_true (nat_eq q x.number)
+  where
+    either_true : (b : Bool) → (b || true) ≡ true
+    either_true true = refl
+    either_true false = refl
+
 module _ (t : Table) (v : IsValid t) where
   -- an entry of a granule, in its node
   record Stands (g : Granule) (s : Standing) : Type 0 where
@@ -110,6 +120,10 @@ module _ (t : Table) (v : IsValid t) where
     | inl f ↦ f.1 ∙ ap (λ (j : ℕ). Some j) (single_leaf t v q f.0 k f.2 h)
     | inr f ↦ absurd (clash (has (look t.nodes k) q) h (f.1 k))
   ]
+
+  -- an entry that stood in the leaf leaves none for it
+  pub none_left : (leaf : ℕ) (e : Entry) → has (look t.nodes leaf) e.number ≡ true → left_by t.nodes leaf e ≡ []
+  none_left leaf e h = ap (other_leaf leaf) (leaf_is leaf e.number h) ∙ ap (λ (b : Bool). cond b [] (leaf ∷ [])) (self_equal leaf)
 
   -- where it was found
   record WasIn (k q : ℕ) : Type 0 where

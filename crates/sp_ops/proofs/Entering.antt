@@ -1,9 +1,10 @@
 -- What the parts of a plan say of the leaf that a new entry enters, and of the granules that were searched.
-use Rattle.std.proofs.Common.{◌≡◌, ◌≢◌, ℕ, zero, suc, ◌+◌, ◌<◌, Bool, true, false, ◌&&◌, ◌||◌, ◌↔◌, cond, List, [], ◌∷◌, ◌++◌, map, length, take, get_or, Option, Some, None, is_some, refl, sym, ap, ◌∙◌, subst, inl, inr, ◌⊎◌, arith}
+use Rattle.std.proofs.Common.{◌≡◌, ◌≢◌, ℕ, zero, suc, ◌+◌, ◌-◌, ◌<◌, ◌≤◌, Bool, true, false, ◌&&◌, ◌||◌, ◌↔◌, cond, List, [], ◌∷◌, ◌++◌, map, length, take, get_or, Option, Some, None, is_some, refl, sym, ap, ◌∙◌, subst, inl, inr, ◌⊎◌, arith}
 use Rattle.std.specs.Prelude.{nat_eq, is_none, MatchOption}
 use Rattle.std.specs.List.{filter, list_any}
 use Rattle.std.proofs.lemmas.Bool.Decides.{nat_tests}
 use Rattle.std.proofs.lemmas.List.{take_more}
+use Rattle.std.proofs.lemmas.List.Folds.{list_any-append}
 use Rattle.sp_locks.specs.declared.mode.Mode.{Mode}
 use Rattle.sp_locks.specs.declared.mode.Mode.TheVariants.{IX, S}
 use Rattle.sp_locks.specs.declared.row.Name.{Name}
@@ -53,6 +54,27 @@ clash b e f = cc
 parts : (a b : Bool) → (a && b) ≡ true → (a ≡ true) × (b ≡ true)
 parts true b h = (refl, h)
 parts false b h = cc
+
+-- of the first of them, the last is one or none
+pub any_back : (p : Entry → Bool) (es : List Entry) (i : ℕ) (e : Entry) → 0 < i → i ≤ length es → e ≡ get_or es (i - 1) e → list_any p (take i es) ≡ (list_any p (take (i - 1) es) || p e)
+any_back p es i e some l is =
+    let more : i ≡ (i - 1) + 1 = omega (arith, some) in
+    ap (λ (n : ℕ). list_any p (take n es)) more
+    ∙ ap (list_any p) (take_more es (i - 1) e (omega (arith, some, l)) ∙ ap (λ (d : Entry). take (i - 1) es ++ d ∷ []) (sym is))
+    ∙ list_any-append p (take (i - 1) es) (e ∷ [])
+    ∙ ap (λ (b : Bool). list_any p (take (i - 1) es) || b) (or_false (p e))
+  where
+    or_false : (b : Bool) → (b || false) ≡ b
+    or_false true = refl
+    or_false false = refl
+
+pub or_true : (a : Bool) → (a || true) ≡ true
+or_true true = refl
+or_true false = refl
+
+pub or_none : (a b : Bool) → b ≡ false → (a || b) ≡ a
+or_none true b e = refl
+or_none false b e = e
 
 both : (a b : Bool) → a ≡ true → b ≡ true → (a && b) ≡ true
 both true b h k = k

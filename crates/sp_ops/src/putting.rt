@@ -40,12 +40,12 @@ fn is_new(tree: &Tree, entry: &Entry) -> bool
     }
 }
 
-// Whether the tree lacks one of the entries.
+// Whether the tree lacks one of the entries, of which a new one stands last where the leaf is not split.
 fn has_new(tree: &Tree, entries: &[Entry]) -> bool
     ensures { result ≡ list_any (is_new tree.now.table.nodes) entries.now }
 {
-    for entry in entries {
-        if is_new(tree, entry) {
+    'back: for i in (0..entries.len()).rev() {
+        if is_new(tree, &entries[i]) {
             return true;
         }
     }
