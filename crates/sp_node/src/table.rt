@@ -1,5 +1,5 @@
 // Nodes by their numbers.
-ghost use Rattle.std.specs.Prelude.{◌≡◌, ◌+◌, ◌<◌, ◌≤◌, ◌-◌, [], OnOk, length, vec_len, vec_capacity};
+ghost use Rattle.std.specs.Prelude.{◌≡◌, ◌+◌, ◌<◌, ◌≤◌, ◌-◌, [], Some, OnOk, IfSome, length, vec_len, vec_capacity};
 ghost use Rattle.std.specs.Option.{option_copied};
 ghost use Rattle.sp_node.specs.Look.{look, entries_in, IsAscending, put_node, take_out};
 ghost use Rattle.sp_node.specs.Plan.{with_parts};
@@ -69,6 +69,31 @@ fn change_pair(alloc: Global, pairs: &mut Vec<(u64, Node)>, leaf: u64, entry: u6
     }
 }
 
+// The node of this number, where it stands as many places on: so it does while no node before it is gone.
+fn at_its_number(pairs: &[(u64, Node)], number: u64) -> Option<&Node>
+    requires { IsAscending pairs.now }
+    ensures { IfSome (option_copied result) (λ node. look pairs.now number ≡ Some node) }
+{
+    let at = number.saturating_sub(1) as usize;
+    let pair = pairs.get(at)?;
+    if pair.0 == number {
+        Some(&pair.1)
+    } else {
+        None
+    }
+}
+
+// The node of this number.
+fn searched(pairs: &[(u64, Node)], number: u64) -> Option<&Node>
+    requires { IsAscending pairs.now }
+    ensures { option_copied result ≡ look pairs.now number }
+{
+    match pairs.binary_search_by_key(&number, |pair| pair.0) {
+        Ok(at) => Some(&pairs[at].1),
+        Err(_) => None,
+    }
+}
+
 impl NodeTable {
     pub(crate) fn new(alloc: Global) -> NodeTable
         ensures { result.nodes ≡ [] }
@@ -82,9 +107,9 @@ impl NodeTable {
     pub(crate) fn get(&self, number: u64) -> Option<&Node>
         ensures { option_copied result ≡ look self.now.nodes number }
     {
-        match self.pairs.binary_search_by_key(&number, |pair| pair.0) {
-            Ok(at) => Some(&self.pairs[at].1),
-            Err(_) => None,
+        match at_its_number(&self.pairs, number) {
+            Some(node) => Some(node),
+            None => searched(&self.pairs, number),
         }
     }
 

@@ -117,7 +117,8 @@ impl Tree {
         self.leaves.len()
     }
 
-    /// The node of this number, or None exactly where the tree lacks the number. Costs a binary search.
+    /// The node of this number, or None exactly where the tree lacks the number. Costs one look while no node is gone
+    /// from the tree, and else a binary search.
     pub fn node(&self, number: u64) -> Option<&Node>
         ensures value { option_copied result ≡ look self.now.table.nodes number }
         ensures stands { MatchOption (option_copied result) (HasNoNode self.now.table number) (IsNodeOf self.now.table number) }
