@@ -5,3 +5,4 @@ mod Parts
 mod Walk
 mod Opening
 mod Turn
+pub mod Covered

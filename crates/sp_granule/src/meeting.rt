@@ -1,8 +1,9 @@
 // The granules that a rectangle meets.
-ghost use Rattle.std.specs.Prelude.{◌≡◌, ◌↔◌, ℕ, ◌++◌, ◌∷◌, [], map, OnOk, IfOk};
+ghost use Rattle.std.specs.Prelude.{◌≡◌, ◌↔◌, ℕ, ◌++◌, ◌∷◌, [], map, IsTrue, OnOk, IfOk};
 ghost use Rattle.std.specs.List.Sorted.{IsStrictlyIncreasing};
 ghost use Rattle.sp_node.specs.Among.{Among};
 ghost use Rattle.sp_node.specs.Look.{look};
+ghost use Rattle.sp_region.specs.Region.{LeavesAny};
 ghost use Rattle.sp_granule.specs.Granules.{granules, IsMeeting};
 ghost use Rattle.sp_granule.specs.Visit.{AreAdded, IsJudged, IsVisited};
 
@@ -29,6 +30,18 @@ fn rects_of(alloc: Global, children: &[Child]) -> Result<Records2, AllocError>
     Ok(Records2::from_vec(rects))
 }
 
+// Whether one of the children has all of the part, so that they leave none of it.
+fn is_covered(part: &Rect, children: &[Child]) -> bool
+    ensures { IsTrue result → LeavesAny part.now (map (λ c. c.rect) children.now) → ⊥ }
+{
+    for child in children {
+        if child.rect.encloses(part) {
+            return true;
+        }
+    }
+    false
+}
+
 // Adds the inner node's number where its children leave a point of the part.
 fn judge(
     alloc: Global,
@@ -38,6 +51,9 @@ fn judge(
 ) -> Result<(), AllocError>
     ensures { OnOk result (IsJudged waiting.now.part (map (λ c. c.rect) children.now) waiting.now.node found.old.items found.new.items) }
 {
+    if is_covered(&waiting.part, children) {
+        return Ok(());
+    }
     let holes = rects_of(alloc, children)?;
     if leaves_any(alloc, &waiting.part, &holes)? {
         found.push(waiting.node)?;
