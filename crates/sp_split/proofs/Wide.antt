@@ -34,11 +34,9 @@ waste_fits x y z lx hx ly hy lz hz =
 tested : (x y : ℤ) → MatchBool (lt_z x y) (x <ℤ y) (y ≤ℤ x)
 tested x y = grind (arith, ints)
 
-pub compared : (x y a b : ℤ) → FitsSigned w128 x → FitsSigned w128 y → x ≡ a → y ≡ b → MatchBool (lt_z (wide x) (wide y)) (a <ℤ b) (b ≤ℤ a)
-compared x y a b fx fy ex ey =
-    let e : wide x ≡ a = to_z-of_z w128 x fx ∙ ex in
-    let f : wide y ≡ b = to_z-of_z w128 y fy ∙ ey in
-    subst (λ (z : ℤ). MatchBool (lt_z z (wide y)) (a <ℤ b) (b ≤ℤ a)) (sym e) (subst (λ (z : ℤ). MatchBool (lt_z a z) (a <ℤ b) (b ≤ℤ a)) (sym f) (tested a b))
+pub compared : (x y a b : ℤ) → x ≡ a → y ≡ b → MatchBool (lt_z x y) (a <ℤ b) (b ≤ℤ a)
+compared x y a b ex ey =
+    subst (λ (z : ℤ). MatchBool (lt_z z y) (a <ℤ b) (b ≤ℤ a)) (sym ex) (subst (λ (z : ℤ). MatchBool (lt_z a z) (a <ℤ b) (b ≤ℤ a)) (sym ey) (tested a b))
 
 pub yes : (P Q : Type 0) (b : Bool) → b ≡ true → MatchBool b P Q → P
 yes P Q b e m = subst (λ (x : Bool). MatchBool x P Q) e m

@@ -15,15 +15,6 @@ fn difference(first: &Rect, second: &Rect, rect: &Rect) -> i128
     (a - b).max(b - a)
 }
 
-// Whether the growths by one rectangle are further apart than those by another.
-fn prefers(rects: &[Rect], first: &Rect, second: &Rect, p: usize, q: usize) -> bool
-    requires p { p < length rects.now }
-    requires q { q < length rects.now }
-    ensures { MatchBool result (preference rects.now first.now second.now q <ℤ preference rects.now first.now second.now p) (preference rects.now first.now second.now p ≤ℤ preference rects.now first.now second.now q) }
-{
-    difference(first, second, &rects[p]) > difference(first, second, &rects[q])
-}
-
 /// The first position that is not placed.
 pub(crate) fn lowest(placed: &[bool]) -> Option<usize>
     ensures { MatchOption result ((k : ℕ) → k < length placed.now → slice_index_or placed.now k true ≡ true) (λ p. (p < length placed.now) × (slice_index_or placed.now p true ≡ false) × ((k : ℕ) → k < p → slice_index_or placed.now k true ≡ true)) }
@@ -54,10 +45,13 @@ pub(crate) fn pick_next(
     ensures least { (q : ℕ) → q < result → slice_index_or placed.now q true ≡ false → preference rects.now first.now second.now q <ℤ preference rects.now first.now second.now result }
 {
     let mut best = lowest;
+    let mut most = difference(first, second, &rects[lowest]);
     for i in lowest..rects.len() {
         if !placed[i] {
-            if prefers(rects, first, second, i, best) {
+            let difference = difference(first, second, &rects[i]);
+            if difference > most {
                 best = i;
+                most = difference;
             }
         }
     }

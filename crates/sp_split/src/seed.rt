@@ -13,17 +13,6 @@ fn waste_of(a: &Rect, b: &Rect) -> i128
     a.bound(b).area() - a.area() - b.area()
 }
 
-// Whether the pair i, j wastes more than the pair first, second.
-fn wastes_more(rects: &[Rect], i: usize, j: usize, first: usize, second: usize) -> bool
-    requires i { i < length rects.now }
-    requires j { j < length rects.now }
-    requires first { first < length rects.now }
-    requires second { second < length rects.now }
-    ensures { MatchBool result (waste rects.now first second <ℤ waste rects.now i j) (waste rects.now i j ≤ℤ waste rects.now first second) }
-{
-    waste_of(&rects[i], &rects[j]) > waste_of(&rects[first], &rects[second])
-}
-
 /// The pair of positions whose bound wastes most, of equal ones the first by its lower position and then by
 /// its higher.
 pub(crate) fn seeds(rects: &[Rect]) -> (usize, usize)
@@ -32,11 +21,14 @@ pub(crate) fn seeds(rects: &[Rect]) -> (usize, usize)
 {
     let mut first = 0;
     let mut second = 1;
+    let mut most = waste_of(&rects[0], &rects[1]);
     for i in 0..rects.len() {
         for j in i + 1..rects.len() {
-            if wastes_more(rects, i, j, first, second) {
+            let waste = waste_of(&rects[i], &rects[j]);
+            if waste > most {
                 first = i;
                 second = j;
+                most = waste;
             }
         }
     }
