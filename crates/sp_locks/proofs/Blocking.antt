@@ -6,13 +6,14 @@ use Rattle.sp_list.specs.Emptiness.{is_empty}
 use Rattle.sp_locks.specs.declared.mode.Mode.{Mode}
 use Rattle.sp_locks.specs.declared.row.Name.{Name}
 use Rattle.sp_locks.specs.declared.row.Row.{Row}
+use Rattle.sp_locks.specs.declared.row.Scope.TheVariants.{ShortLocks}
 use Rattle.sp_locks.specs.Modes.{compatible, join}
-use Rattle.sp_locks.specs.Rows.{same_name, is_held_by, stops, holds_in, is_blocked, join_onto, held_in, with_session, sessions_of, blockers_in}
+use Rattle.sp_locks.specs.Rows.{same_name, is_held_by, stops, holds_in, is_blocked, is_open, goes, join_onto, held_in, with_session, sessions_of, blockers_in}
 use Rattle.sp_locks.specs.Table.{is_on, rows_on, held, blockers}
 use Rattle.sp_locks.specs.Soundness.{In, HeldCompatible}
 use Rattle.sp_locks.specs.Blocking.{member, IsAscending, is_compatible_with, WaitsAgainst, Blocks}
 use Rattle.sp_locks.proofs.Names.{same_is, same-refl}
-use Rattle.sp_locks.proofs.Members.{in-kept, of_kept, of_any, to_any, numbers-same, numbers-tell, numbers-apart}
+use Rattle.sp_locks.proofs.Members.{in-kept, of_kept, of_any, to_any, numbers-same, numbers-tell, numbers-apart, second_of_both}
 use Rattle.sp_locks.proofs.ModeLaws.{held-tells, compatible-sym}
 
 some-session : (s : ℕ) (xs : List ℕ) → is_empty (with_session s xs) ≡ false
@@ -40,6 +41,18 @@ blocked-is s m rows = drop (holds_in s rows) ∙ sym (some-sessions (stops (hold
 
     drop : (h : Bool) → (list_any (stops (h || false) s m) rows || false) ≡ list_any (stops h s m) rows
     drop h = no_more (list_any (stops (h || false) s m) rows) ∙ ap (λ b. list_any (stops b s m) rows) (no_more h)
+
+-- no row stops a request exactly where nobody blocks it
+pub unblocked-is : (s : ℕ) (m : Mode) (rows : List Row) → not (list_any (stops (holds_in s rows) s m) rows) ≡ is_empty (blockers_in s m rows)
+unblocked-is s m rows = ap not (sym (some-sessions (stops (holds_in s rows) s m) rows)) ∙ twice (is_empty (blockers_in s m rows))
+  where
+    twice : (b : Bool) → not (not b) ≡ b
+    twice true = refl
+    twice false = refl
+
+-- what is open to a request does not block it
+pub open-unblocked : (s : ℕ) (m : Mode) (rows : List Row) → is_open s m rows ≡ true → is_blocked rows [] s m ≡ false
+open-unblocked s m rows open_is = blocked-is s m rows ∙ ap not (second_of_both (not (list_any (goes ShortLocks s) rows)) (is_empty (blockers_in s m rows)) open_is)
 
 member-with_session : (u s : ℕ) (xs : List ℕ) → member u (with_session s xs) ≡ (nat_eq u s || member u xs)
 member-with_session u s [] = refl

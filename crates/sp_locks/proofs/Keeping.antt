@@ -404,3 +404,9 @@ grant-kept r old new es held awake free sound are is =
     let alone : NoWaiter r.session (rows_on r.name old) = (λ (x : Row) (i : In x (rows_on r.name old)) (w : x.waiting ≡ true) (e : x.session ≡ r.session). no_waiter r.session old awake x (in-table r.name x old i).0 w e) in
     let now : IsSound (with_row_on r old) = grant-sound r old held alone free sound in
     (subst IsSound (sym is) now, λ u. are u ∙ ap name_of (sym (grant-waits u r old held sound.once now.once)) ∙ ap (λ rows. name_of (waiting_in u rows)) (sym is))
+
+-- a lock is granted, or not
+pub grant-either : (r : Row) (ok : Bool) (old new : List Row) (es : List (ℕ × Name)) → r.waiting ≡ false → waiting_in r.session old ≡ None → (ok ≡ true → is_blocked (rows_on r.name old) [] r.session r.mode ≡ false)
+    → IsSound old → AreWaits es old → new ≡ (if ok then with_row_on r old else old) → IsSound new × AreWaits es new
+grant-either r true old new es held awake free sound are is = grant-kept r old new es held awake (free refl) sound are is
+grant-either r false old new es held awake free sound are is = (subst IsSound (sym is) sound, subst (AreWaits es) (sym is) are)

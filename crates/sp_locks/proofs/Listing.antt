@@ -1,5 +1,6 @@
 -- The lists of names by session, where rows come and go.
-use Rattle.std.proofs.Common.{◌≡◌, ◌⊎◌, ℕ, Bool, true, false, not, ◌&&◌, ◌||◌, if◌then◌else◌, cond, nat_eq, List, [], ◌∷◌, ◌++◌, Option, None, Some, refl, sym, ap, ◌∙◌, subst, inl, inr, true≢false, arith}
+use Rattle.std.proofs.Common.{◌≡◌, ◌⊎◌, ℕ, Bool, true, false, not, ◌&&◌, ◌||◌, if◌then◌else◌, cond, nat_eq, List, [], ◌∷◌, ◌++◌, Option, None, Some, Ok, Err, is_ok, refl, sym, ap, ◌∙◌, subst, inl, inr, true≢false, arith}
+use Rattle.std.specs.Prelude.{Result, OnOk}
 use Rattle.std.specs.List.{list_any}
 use Rattle.std.specs.List.{AllZip}
 use Rattle.std.specs.Map.{lookup}
@@ -73,6 +74,11 @@ alike-more n (m ∷ names) more h = go (same_name n m) (list_any (same_name n) (
     go : (a b : Bool) → b ≡ true → (a || b) ≡ true
     go a b h = grind arith
 
+-- what holds of a success
+pub of_ok : {T E : Type 0} (r : Result T E) (A : Type 0) → OnOk r A → is_ok r ≡ true → A
+of_ok (Ok v) A h k = h
+of_ok (Err e) A h k = absurd (true≢false (sym k))
+
 module _ {V : Type 0} (items : V → List Name) where
   alike-listed : (commits shorts : List (ℕ × V)) (y x : Row) → Alike y x → is_listed items (if is_short y then shorts else commits) y.session y.name ≡ true → is_listed items (if is_short x then shorts else commits) x.session x.name ≡ true
   alike-listed commits shorts y x (e, f, g) h =
@@ -115,21 +121,22 @@ module _ {V : Type 0} (items : V → List Name) where
 
   -- a row comes, or not
   pub listed-more : (commits shorts commits' shorts' : List (ℕ × V)) (r : Row) (ok : Bool) (rows new : List Row) → AreListed items commits shorts rows → KeepsLists items commits commits' → KeepsLists items shorts shorts'
-      → (list_any (is_row_of r.session r.duration) (rows_on r.name rows) ≡ false → is_listed items (if is_short r then shorts' else commits') r.session r.name ≡ true)
+      → (ok ≡ true → list_any (is_row_of r.session r.duration) (rows_on r.name rows) ≡ false → is_listed items (if is_short r then shorts' else commits') r.session r.name ≡ true)
       → new ≡ (if ok then with_row_on r rows else rows) → AreListed items commits' shorts' new
-  listed-more commits shorts commits' shorts' r ok rows new are k l listed is = subst (AreListed items commits' shorts') (sym is) (go ok)
+  listed-more commits shorts commits' shorts' r ok rows new are k l listed is = subst (AreListed items commits' shorts') (sym is) (go ok listed)
     where
       wider : (b : Bool) → is_listed items (if b then shorts else commits) r.session r.name ≡ true → is_listed items (if b then shorts' else commits') r.session r.name ≡ true
       wider true h = l r.session r.name h
       wider false h = k r.session r.name h
 
-      now : (b : Bool) → list_any (is_row_of r.session r.duration) (rows_on r.name rows) ≡ b → is_listed items (if is_short r then shorts' else commits') r.session r.name ≡ true
-      now true e = wider (is_short r) (listed-has commits shorts r rows are e)
-      now false e = listed e
+      now : (b : Bool) → list_any (is_row_of r.session r.duration) (rows_on r.name rows) ≡ b → (list_any (is_row_of r.session r.duration) (rows_on r.name rows) ≡ false → is_listed items (if is_short r then shorts' else commits') r.session r.name ≡ true)
+          → is_listed items (if is_short r then shorts' else commits') r.session r.name ≡ true
+      now true e listed = wider (is_short r) (listed-has commits shorts r rows are e)
+      now false e listed = listed e
 
-      go : (b : Bool) → AreListed items commits' shorts' (if b then with_row_on r rows else rows)
-      go true = listed-added commits' shorts' r rows (listed-kept commits shorts commits' shorts' rows k l are) (now (list_any (is_row_of r.session r.duration) (rows_on r.name rows)) refl)
-      go false = listed-kept commits shorts commits' shorts' rows k l are
+      go : (b : Bool) → (b ≡ true → list_any (is_row_of r.session r.duration) (rows_on r.name rows) ≡ false → is_listed items (if is_short r then shorts' else commits') r.session r.name ≡ true) → AreListed items commits' shorts' (if b then with_row_on r rows else rows)
+      go true listed = listed-added commits' shorts' r rows (listed-kept commits shorts commits' shorts' rows k l are) (now (list_any (is_row_of r.session r.duration) (rows_on r.name rows)) refl (listed refl))
+      go false listed = listed-kept commits shorts commits' shorts' rows k l are
 
   other-list : (s u : ℕ) (n : Name) (old new : List (ℕ × V)) → IsWithout items s old new → nat_eq s u ≡ false → is_listed items old u n ≡ true → is_listed items new u n ≡ true
   other-list s u n old new without other h = ap (list_any (same_name n)) (without u ∙ (rw other refl)) ∙ h

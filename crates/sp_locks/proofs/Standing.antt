@@ -269,6 +269,10 @@ module _ {V : Type 0} (items : V → List Row) where
     pub release-rows : (rest : List Name) → made items scope s rest (set vs i w) ≡ made items scope s (n ∷ rest) vs
     release-rows rest = made-at scope s n rest i vs w d slots (place-at n i vs places are found) is
 
+  -- the slot at the place of a name has the rows on it
+  pub there : (n : Name) (i : ℕ) (vs : List V) (d : V) (places : List (Name × ℕ)) (rows : List Row) → AreSlots items vs → ArePlaces items places vs → lookup (same_name n) places ≡ Some i → d ≡ get_or vs i d → rows_of items vs ≡ rows → rows_on n rows ≡ items d
+  there n i vs d places rows slots are found is view = ap (rows_on n) (sym view) ∙ at-rows n i vs d slots (place-at n i vs places are found) ∙ ap items (sym is)
+
   -- a row comes to a slot
   module _ (r : Row) (ok : Bool) (i : ℕ) (vs : List V) (w d : V) (places : List (Name × ℕ)) (slots : AreSlots items vs) (are : ArePlaces items places vs) (found : lookup (same_name r.name) places ≡ Some i)
       (is : items w ≡ (if ok then with_row r (items (get_or vs i d)) else items (get_or vs i d))) where

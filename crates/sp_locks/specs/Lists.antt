@@ -20,6 +20,10 @@ module _ {V : Type 0} (items : V → List Name) where
   abbrev pub is_listed : List (ℕ × V) → ℕ → Name → Bool
   is_listed lists session name = list_any (same_name name) (names_at session lists)
 
+  -- the name of the row is among those of its session: among the first for commit, among the second if it is short
+  abbrev pub is_row_listed : List (ℕ × V) → List (ℕ × V) → Row → Bool
+  is_row_listed commits shorts x = is_listed (if is_short x then shorts else commits) x.session x.name
+
   -- no name is taken from a list
   abbrev pub KeepsLists : List (ℕ × V) → List (ℕ × V) → Type 0
   KeepsLists old new = (session : ℕ) (name : Name) → is_listed old session name ≡ true → is_listed new session name ≡ true

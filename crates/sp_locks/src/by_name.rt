@@ -1,16 +1,15 @@
 // The rows of a table by name, and the names by session.
-ghost use Rattle.std.specs.Prelude.{◌≡◌, [], ◌∷◌, ◌++◌, OnOk, OnErr, IfOk, slice_get, if◌then◌else◌, List, is_ok, None, true, false};
-ghost use Rattle.std.specs.List.{list_any};
-ghost use Rattle.sp_locks.specs.Rows.{waiting_in, is_short, is_row_of};
+ghost use Rattle.std.specs.Prelude.{◌≡◌, [], ◌∷◌, ◌++◌, OnOk, OnErr, IfOk, slice_get, if◌then◌else◌, List, is_ok, None, false};
+ghost use Rattle.sp_locks.specs.Rows.{waiting_in, is_open};
 ghost use Rattle.sp_locks.specs.Table.{rows_on, with_row_on, replaced, released, given, AreFreeInTurn};
-ghost use Rattle.sp_locks.specs.Lists.{is_listed, KeepsLists};
+ghost use Rattle.sp_locks.specs.Answers.{is_yes};
 ghost use Rattle.sp_locks.specs.Soundness.{IsSound};
 ghost use Rattle.sp_locks.specs.declared.row.Scope.TheVariants.{ShortLocks, AllRows};
 
+use crate::lists;
 use crate::needs::Need;
 use crate::row::{Duration, Name, Row, Scope, SessionId};
 use crate::slots::Slots;
-use crate::{lists, rows};
 use indexmap::IndexMap;
 use std::alloc::{AllocError, Global};
 use std::marker::Model;
@@ -38,30 +37,6 @@ impl Model for RowsByName {
     ghost invariant = { λ a. AreListed (λ v. v.items) a.commits.entries a.shorts.entries a.rows };
 }
 
-// Lists the name of a row for its session and its duration, unless the session has such a row among
-// those on the name.
-fn list_row(
-    commits: &mut IndexMap<SessionId, Vec<Name>>,
-    shorts: &mut IndexMap<SessionId, Vec<Name>>,
-    alloc: Global,
-    held: &[Row],
-    row: Row,
-) -> Result<(), AllocError>
-    ensures commits { KeepsLists (λ v. v.items) commits.old.entries commits.new.entries }
-    ensures shorts { KeepsLists (λ v. v.items) shorts.old.entries shorts.new.entries }
-    ensures listed { OnOk result (list_any (is_row_of row.session row.duration) held.now ≡ false
-        → is_listed (λ v. v.items) (if is_short row then shorts.new.entries else commits.new.entries) row.session row.name ≡ true) }
-{
-    if rows::has_row(held, row.session, row.duration) {
-        return Ok(());
-    }
-    if row.is_short() {
-        lists::list(shorts, alloc, row.session, row.name)
-    } else {
-        lists::list(commits, alloc, row.session, row.name)
-    }
-}
-
 impl RowsByName {
     /// No rows.
     pub(crate) fn new(alloc: Global) -> RowsByName
@@ -86,9 +61,18 @@ impl RowsByName {
     pub(crate) fn add(&mut self, alloc: Global, row: Row) -> Result<(), AllocError>
         ensures { self.new ≡ (if is_ok result then with_row_on row self.old else self.old) }
     {
-        let held = self.rows.on(row.name);
-        list_row(&mut self.commits, &mut self.shorts, alloc, held, row)?;
-        self.rows.add(alloc, row)
+        self.rows
+            .add(&mut self.commits, &mut self.shorts, alloc, row)
+    }
+
+    /// Adds a lock as `add` does where its name is open to it, and says whether it is. Else, and
+    /// where there is no memory, all is as it was.
+    pub(crate) fn grant(&mut self, alloc: Global, lock: Row) -> Result<bool, AllocError>
+        ensures answer { IfOk result (λ granted. granted ≡ is_open lock.session lock.mode (rows_on lock.name self.old)) }
+        ensures rows { self.new ≡ (if is_yes result then with_row_on lock self.old else self.old) }
+    {
+        self.rows
+            .grant(&mut self.commits, &mut self.shorts, alloc, lock)
     }
 
     // Takes back the last row, the only one on its name.

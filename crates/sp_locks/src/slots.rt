@@ -1,11 +1,15 @@
 // Rows by name: where they stand, and how they come and go.
-ghost use Rattle.std.specs.Prelude.{◌≡◌, ◌<◌, [], ◌∷◌, ◌++◌, List, IfOk, OnOk, IsOk, slice_get, if◌then◌else◌, is_ok};
+ghost use Rattle.std.specs.Prelude.{◌≡◌, ◌<◌, [], ◌∷◌, ◌++◌, List, IfOk, OnOk, IsOk, slice_get, if◌then◌else◌, is_ok, true, false};
+ghost use Rattle.std.specs.List.{list_any};
 ghost use Rattle.indexmap.specs.IndexMap.{spare};
+ghost use Rattle.sp_locks.specs.Rows.{is_row_of, is_open, with_row};
+ghost use Rattle.sp_locks.specs.Lists.{is_row_listed, KeepsLists};
+ghost use Rattle.sp_locks.specs.Answers.{is_yes};
 ghost use Rattle.sp_locks.specs.Table.{rows_on, with_row_on, replaced};
 ghost use Rattle.sp_locks.specs.Slots.{AreSlots, ArePlaces, AreNames, IsMoved, IsForgotten, IsPlaced, rows_of, made, worked_through};
 
 use crate::row::{Name, Row, Scope, SessionId};
-use crate::rows;
+use crate::{lists, rows};
 use indexmap::IndexMap;
 use std::alloc::{AllocError, Global};
 use std::marker::Model;
@@ -131,6 +135,47 @@ fn release_each(
     }
 }
 
+// Adds a row to others on its name, and lists the name for its session and its duration, unless the
+// session has such a row among them.
+fn add_listed(
+    rows: &mut Vec<Row>,
+    commits: &mut IndexMap<SessionId, Vec<Name>>,
+    shorts: &mut IndexMap<SessionId, Vec<Name>>,
+    alloc: Global,
+    row: Row,
+) -> Result<(), AllocError>
+    ensures commits { KeepsLists (λ v. v.items) commits.old.entries commits.new.entries }
+    ensures shorts { KeepsLists (λ v. v.items) shorts.old.entries shorts.new.entries }
+    ensures listed { OnOk result (list_any (is_row_of row.session row.duration) rows.old.items ≡ false
+        → is_row_listed (λ v. v.items) commits.new.entries shorts.new.entries row ≡ true) }
+    ensures rows { rows.new.items ≡ (if is_ok result then with_row row rows.old.items else rows.old.items) }
+{
+    lists::list_row(commits, shorts, alloc, rows, row)?;
+    rows::add(rows, row)
+}
+
+// Adds a lock so to others on its name where they are open to it, and says whether they are.
+fn grant_listed(
+    rows: &mut Vec<Row>,
+    commits: &mut IndexMap<SessionId, Vec<Name>>,
+    shorts: &mut IndexMap<SessionId, Vec<Name>>,
+    alloc: Global,
+    lock: Row,
+) -> Result<bool, AllocError>
+    ensures commits { KeepsLists (λ v. v.items) commits.old.entries commits.new.entries }
+    ensures shorts { KeepsLists (λ v. v.items) shorts.old.entries shorts.new.entries }
+    ensures answer { IfOk result (λ granted. granted ≡ is_open lock.session lock.mode rows.old.items) }
+    ensures listed { is_yes result ≡ true → list_any (is_row_of lock.session lock.duration) rows.old.items ≡ false
+        → is_row_listed (λ v. v.items) commits.new.entries shorts.new.entries lock ≡ true }
+    ensures rows { rows.new.items ≡ (if is_yes result then with_row lock rows.old.items else rows.old.items) }
+{
+    if !rows::is_open(rows, lock.session, lock.mode) {
+        return Ok(false);
+    }
+    add_listed(rows, commits, shorts, alloc, lock)?;
+    Ok(true)
+}
+
 impl Slots {
     /// No rows.
     pub(crate) fn new(alloc: Global) -> Slots
@@ -153,16 +198,60 @@ impl Slots {
     }
 
     /// Adds a row to those on its name: one that waits comes last, and a lock raises the one that
-    /// its session holds there for that duration. Where there is no memory all is as it was.
-    pub(crate) fn add(&mut self, alloc: Global, row: Row) -> Result<(), AllocError>
-        ensures { self.new ≡ (if is_ok result then with_row_on row self.old else self.old) }
+    /// its session holds there for that duration. The name is listed for its session and its
+    /// duration, unless the session has such a row there. Where there is no memory the rows are as
+    /// they were.
+    pub(crate) fn add(
+        &mut self,
+        commits: &mut IndexMap<SessionId, Vec<Name>>,
+        shorts: &mut IndexMap<SessionId, Vec<Name>>,
+        alloc: Global,
+        row: Row,
+    ) -> Result<(), AllocError>
+        ensures commits { KeepsLists (λ v. v.items) commits.old.entries commits.new.entries }
+        ensures shorts { KeepsLists (λ v. v.items) shorts.old.entries shorts.new.entries }
+        ensures listed { OnOk result (list_any (is_row_of row.session row.duration) (rows_on row.name self.old) ≡ false
+            → is_row_listed (λ v. v.items) commits.new.entries shorts.new.entries row ≡ true) }
+        ensures rows { self.new ≡ (if is_ok result then with_row_on row self.old else self.old) }
     {
         match self.places.get(&row.name) {
             Some(at) => {
                 let at = *at;
-                rows::add(&mut self.slots[at], row)
+                add_listed(&mut self.slots[at], commits, shorts, alloc, row)
             }
-            None => self.add_name(alloc, row),
+            None => {
+                lists::list_row(commits, shorts, alloc, &[], row)?;
+                self.add_name(alloc, row)
+            }
+        }
+    }
+
+    /// Adds a lock as `add` does where its name is open to it, and says whether it is. Else, and
+    /// where there is no memory, the rows are as they were.
+    pub(crate) fn grant(
+        &mut self,
+        commits: &mut IndexMap<SessionId, Vec<Name>>,
+        shorts: &mut IndexMap<SessionId, Vec<Name>>,
+        alloc: Global,
+        lock: Row,
+    ) -> Result<bool, AllocError>
+        ensures commits { KeepsLists (λ v. v.items) commits.old.entries commits.new.entries }
+        ensures shorts { KeepsLists (λ v. v.items) shorts.old.entries shorts.new.entries }
+        ensures answer { IfOk result (λ granted. granted ≡ is_open lock.session lock.mode (rows_on lock.name self.old)) }
+        ensures listed { is_yes result ≡ true → list_any (is_row_of lock.session lock.duration) (rows_on lock.name self.old) ≡ false
+            → is_row_listed (λ v. v.items) commits.new.entries shorts.new.entries lock ≡ true }
+        ensures rows { self.new ≡ (if is_yes result then with_row_on lock self.old else self.old) }
+    {
+        match self.places.get(&lock.name) {
+            Some(at) => {
+                let at = *at;
+                grant_listed(&mut self.slots[at], commits, shorts, alloc, lock)
+            }
+            None => {
+                lists::list_row(commits, shorts, alloc, &[], lock)?;
+                self.add_name(alloc, lock)?;
+                Ok(true)
+            }
         }
     }
 
