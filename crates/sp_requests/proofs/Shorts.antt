@@ -1,12 +1,12 @@
 -- What blocks a request once the requester's short locks are gone, and what the request comes to.
-use Rattle.std.proofs.Common.{◌≡◌, ◌≢◌, ℕ, Bool, true, false, not, ◌||◌, if◌then◌else◌, List, [], ◌∷◌, ◌++◌, filter, None, Some, refl, sym, ap, ◌∙◌, subst, true≢false, arith, append-nil, append_assoc}
+use Rattle.std.proofs.Common.{◌≡◌, ◌≢◌, ℕ, Bool, true, false, not, ◌&&◌, ◌||◌, if◌then◌else◌, List, [], ◌∷◌, ◌++◌, filter, None, Some, refl, sym, ap, ◌∙◌, subst, true≢false, arith, append-nil, append_assoc}
 use Rattle.std.specs.Prelude.{Result, Ok, Err, IfOk, Option}
 use Rattle.std.specs.List.{list_any}
 use Rattle.sp_list.specs.Emptiness.{is_empty}
 use Rattle.sp_locks.specs.declared.needs.Need.{Need}
 use Rattle.sp_locks.specs.declared.row.Row.{Row}
 use Rattle.sp_locks.specs.declared.row.Scope.TheVariants.{ShortLocks}
-use Rattle.sp_locks.specs.Rows.{is_short, is_blocked, goes, retried, with_lock, granted, waiting_in, blockers_in}
+use Rattle.sp_locks.specs.Rows.{is_short, is_open, is_blocked, goes, retried, with_lock, granted, waiting_in, blockers_in}
 use Rattle.sp_locks.specs.Table.{rows_on, row_of, with_row_on, released, blockers}
 use Rattle.sp_locks.specs.Soundness.{IsSound, WaitersBlocked}
 use Rattle.sp_locks.proofs.OnNames.{released-on}
@@ -87,3 +87,27 @@ unfolding blocking with_wait_of IsClosed
 comes-waiting s need rows left after told us e blocked told_is is those new =
     subst (λ xs. ComesTo s need rows (Waits us) xs) (sym (new ∙ ap (λ (xs : List Row). with_row_on (row_of s need.name need.mode need.duration (not (is_empty (blockers s need.name need.mode xs)))) xs) e ∙ ap (λ b. with_row_on (row_of s need.name need.mode need.duration b) (released ShortLocks s rows)) (waits-if (blocking s need rows) blocked)))
     (subst (λ vs. ComesTo s need rows (Waits vs) (with_wait_of s need rows)) (sym those) (HasToWait blocked (subst (λ o. IsToldCycle (released ShortLocks s rows) s need.name need.mode o) is (subst (λ xs. IsToldCycle xs s need.name need.mode told) e told_is))))
+
+-- a lock that is granted at once
+pub comes-open : (s : ℕ) (need : Need) (rows after : List Row) (granted : Bool) → IsSound rows → granted ≡ is_open s need.mode (rows_on need.name rows)
+    → after ≡ (if granted then with_row_on (row_of s need.name need.mode need.duration false) rows else rows) → granted ≡ true → ComesTo s need rows Granted after
+unfolding with_lock_of
+comes-open s need rows after granted sound tells new is =
+    subst (ComesTo s need rows Granted) (sym (new ∙ ap (λ b. if b then with_row_on (row_of s need.name need.mode need.duration false) rows else rows) is)) (IsGranted free)
+  where
+    no_short : (a b : Bool) → (not a && b) ≡ true → a ≡ false
+    no_short a b h = grind arith
+
+    no_blocker : (a b : Bool) → (a && b) ≡ true → b ≡ true
+    no_blocker a b h = grind arith
+
+    nobody : (us : List ℕ) → is_empty us ≡ true → us ≡ []
+    nobody [] h = refl
+    nobody (u ∷ us) h = absurd (true≢false (sym h))
+
+    open_is : is_open s need.mode (rows_on need.name rows) ≡ true
+    open_is = sym tells ∙ is
+
+    free : blocking s need rows ≡ []
+    free = blocking-same s need rows sound (no_short (list_any (goes ShortLocks s) (rows_on need.name rows)) (is_empty (blockers s need.name need.mode rows)) open_is)
+        ∙ nobody (blockers s need.name need.mode rows) (no_blocker (not (list_any (goes ShortLocks s) (rows_on need.name rows))) (is_empty (blockers s need.name need.mode rows)) open_is)

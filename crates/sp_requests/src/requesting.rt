@@ -108,7 +108,7 @@ fn wait(
 
 /// The session asks for the lock. Whether it must wait is judged with its short locks gone, and it waits
 /// without them. Where there is no memory, and where a wait would close a cycle, the table is as it was.
-/// Costs the rows on the name where it is granted, and the table where it must wait.
+/// Costs the rows on the name, and the table too where the session has a short lock there or must wait.
 pub(crate) fn request(
     alloc: Global,
     table: &mut Table,
@@ -119,6 +119,9 @@ pub(crate) fn request(
     ensures comes { IfOk result (λ outcome. ComesTo session need.now table.old outcome table.new) }
     ensures same { OnErr result (table.new ≡ table.old) }
 {
+    if table.grant(alloc, session, need.name, need.mode, need.duration)? {
+        return Ok(Outcome::Granted);
+    }
     let blockers = blockers(alloc, table, session, need)?;
     if blockers.is_empty() {
         hold(alloc, table, session, need)
