@@ -1,11 +1,12 @@
 -- How what a desk has heard goes on, line after line.
-use Rattle.std.proofs.Common.{rules, ◌≡◌, ℕ, Bool, true, false, List, [], ◌∷◌, ◌++◌, subst}
+use Rattle.std.proofs.Common.{rules, ◌≡◌, ℕ, Bool, true, false, List, [], ◌∷◌, ◌++◌, Option, subst}
 use Rattle.sp_lines.specs.declared.fault.Fault.{Fault}
-use Rattle.sp_lines.specs.declared.fault.Fault.TheVariants.{Memory}
+use Rattle.std.specs.Io.KnownBytes.{Appends}
+use Rattle.sp_lines.specs.declared.fault.Fault.TheVariants.{Write, Memory}
 use Rattle.sp_kernel.specs.Whole.{Whole}
-use Rattle.sp_desk.specs.Hearing.{Place, Went, Halted, script_sessions}
+use Rattle.sp_desk.specs.Hearing.{Place, place, Went, Halted, script_sessions}
 use Rattle.sp_desk.proofs.Joining.{course_none, course_join}
-use Rattle.sp_desk.proofs.Laws.{lines_none, lines_join, halts_none, halts_later, halts_more}
+use Rattle.sp_desk.proofs.Laws.{lines_none, lines_flushed, lines_join, halts_none, halts_unwritten, halts_later, halts_more}
 
 append-nil : {A : Type 0} (x : List A) → x ++ [] ≡ x
 append-nil x = search rules
@@ -55,3 +56,18 @@ module _ {D : Type 0} (tells takes : D → Bool) (faults moment : D → ℕ) (im
   pub halted_nothing : (l others : List (List ℕ)) (p z : Place) (u w : Whole D) → Went tells takes faults moment images false l p u z w → Halted tells takes faults moment images Memory (l ++ others) p u z w
   halted_nothing l others p z u w a =
       halted_more Memory l others p z u w (halted_end Memory l p z z u w w a (record { stops = halts_none z; course = course_none tells takes faults moment images w }))
+
+  -- the sink was flushed
+  pub went_flushed : (l : List (List ℕ)) (p z : Place) (u w : Whole D) (t : Option (List ℕ)) → Appends z.taken t []
+      → Went tells takes faults moment images false l p u z w → Went tells takes faults moment images false l p u (place z.items z.waiting z.kernel t) w
+  went_flushed l p z u w t f a =
+      let q = place z.items z.waiting z.kernel t in
+      subst (λ (x : List (List ℕ)). Went tells takes faults moment images false x p u q w) (append-nil l)
+      (went_join false l [] p z q u w w a (record { answers = lines_flushed script_sessions z t f; course = course_none tells takes faults moment images w }))
+
+  -- it could not be
+  pub halted_unwritten : (l others : List (List ℕ)) (p z : Place) (u w : Whole D) (t : Option (List ℕ)) → Appends z.taken t []
+      → Went tells takes faults moment images false l p u z w → Halted tells takes faults moment images Write (l ++ others) p u (place z.items z.waiting z.kernel t) w
+  halted_unwritten l others p z u w t f a =
+      let q = place z.items z.waiting z.kernel t in
+      halted_more Write l others p q u w (halted_end Write l p z q u w w a (record { stops = halts_unwritten z t f; course = course_none tells takes faults moment images w }))

@@ -21,7 +21,7 @@ use Rattle.sp_desk.specs.declared.stalled.Stalled.{Stalled}
 use Rattle.sp_desk.specs.Course.{Leads}
 use Rattle.sp_desk.specs.Waiting.{stalled_by}
 use Rattle.sp_desk.specs.Playing.{Turn, Plays}
-use Rattle.sp_desk.specs.Hearing.{Place, Passes, Stops, AnswersLines, StopsInLines, turn_after}
+use Rattle.sp_desk.specs.Hearing.{Place, place, Passes, Stops, AnswersLines, StopsInLines, turn_after}
 use Rattle.sp_desk.proofs.Joining.{leads_none}
 
 append-nil : {A : Type 0} (x : List A) → x ++ [] ≡ x
@@ -121,6 +121,16 @@ lines_none sessions p = record { passes = passes_none Turn.Hearing p; closed = �
     differ : false ≡ true → ⊥
     differ e = cc
 
+-- nothing is heard, and the sink is flushed
+pub lines_flushed : (sessions : ℕ) (p : Place) (t : Option (List ℕ)) → Appends p.taken t [] → AnswersLines sessions false [] p (place p.items p.waiting p.kernel t)
+lines_flushed sessions p t f = record {
+  passes = record { items = []; kept = sym (append-nil p.items); heard_as = refl; plays = Plays.Stays; written = f };
+  closed = λ e. absurd (differ e);
+}
+  where
+    differ : false ≡ true → ⊥
+    differ e = cc
+
 pub lines_join : (sessions : ℕ) (ended : Bool) (xs ys : List (List ℕ)) (p q z : Place) → AnswersLines sessions false xs p q → AnswersLines sessions ended ys q z → AnswersLines sessions ended (xs ++ ys) p z
 lines_join sessions ended xs ys p q z a b = record {
   passes = subst (λ l. Passes Turn.Hearing (turn_after ended) l p z) (sym (map-append (said Play) xs ys)) (passes_join Turn.Hearing Turn.Hearing (turn_after ended) _ _ p q z a.passes b.passes);
@@ -134,6 +144,28 @@ halts_none p = record { stops = stops_none Memory Turn.Hearing [] p p (λ e. oth
     other e = cc
 
     apart : Memory ≡ Disk → ⊥
+    apart e = cc
+
+-- nothing is heard, since the sink cannot be flushed
+pub halts_unwritten : (p : Place) (t : Option (List ℕ)) → Appends p.taken t [] → StopsInLines Write [] p (place p.items p.waiting p.kernel t)
+halts_unwritten p t f = record {
+  stops = record {
+    items = [];
+    kept = sym (append-nil p.items);
+    unanswered = [];
+    heard_as = refl;
+    reached = p.kernel;
+    waiting = p.waiting;
+    turn = Turn.Hearing;
+    plays = Plays.Stays;
+    leads = leads_none p.kernel;
+    whole = λ e. refl;
+    written = ([], [], refl, f);
+  };
+  stopped = λ e. absurd (apart e);
+}
+  where
+    apart : Write ≡ Disk → ⊥
     apart e = cc
 
 pub halts_later : (fault : Fault) (sessions : ℕ) (xs ys : List (List ℕ)) (p q z : Place) → AnswersLines sessions false xs p q → StopsInLines fault ys q z → StopsInLines fault (xs ++ ys) p z

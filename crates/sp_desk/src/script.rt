@@ -90,7 +90,7 @@ fn run<D: Disk, S: Source, K: Sink>(
     ensures later { K.write_faults sink.old ≤ K.write_faults sink.new }
 {
     loop {
-        match reader.next(source) {
+        match reader.next(source, sink) {
             Next::Line => {
                 if let Err(fault) = desk.hear_line(kernel, sink, reader.line()) {
                     return end_of(fault);
@@ -109,6 +109,7 @@ fn run<D: Disk, S: Source, K: Sink>(
                 };
             }
             Next::Failed => return End::ReadFault,
+            Next::Unwritten => return End::WriteFault,
             Next::Long => return End::Long,
             Next::Memory => return End::Memory,
         }

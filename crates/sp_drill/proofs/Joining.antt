@@ -1,6 +1,7 @@
 -- How ways from kernel to kernel, items and lines join, one after the other.
 use Rattle.std.proofs.Common.{rules, ◌≡◌, ◌⊎◌, inl, inr, ◌≤◌, ◌<◌, ℕ, Bool, IsTrue, true, false, List, [], ◌∷◌, ◌++◌, Option, refl, sym, ◌∙◌, subst, arith, append_assoc}
 use Rattle.std.proofs.lemmas.Bool.{cases_lt}
+use Rattle.std.specs.Io.KnownBytes.{Appends}
 use Rattle.sp_io.proofs.Known.{Appends-none}
 use Rattle.sp_disk.specs.Moments.{LeavesOnly}
 use Rattle.sp_event.specs.declared.event.Event.TheVariants.{Commit, Flush}
@@ -116,6 +117,10 @@ module _ {D : Type 0} (tells takes : D → Bool) (faults moment : D → ℕ) (im
   pub goes_none : (first : Next) (before : Notes) (w : Whole D) (old : Option (List ℕ)) → Goes tells takes faults moment images first first [] before w old before w old
   goes_none first before w old = record { items = []; hears = hears_none Drill before.items old; drilled = Drilled.IsStart; leads = leads_none w }
 
+  -- the sink is flushed
+  goes_flush : (before : Notes) (w : Whole D) (old new : Option (List ℕ)) → Appends old new [] → Goes tells takes faults moment images (Next.Tells []) (Next.Tells []) [] before w old before w new
+  goes_flush before w old new f = record { items = []; hears = record { kept = sym (append-nil before.items); heard_as = refl; written = f }; drilled = Drilled.IsStart; leads = leads_none w }
+
   pub goes_more : (first middle next : Next) (xs ys : List (List ℕ)) (l m n : Notes) (w v u : Whole D) (old mid new : Option (List ℕ))
       → Goes tells takes faults moment images first middle xs l w old m v mid → Goes tells takes faults moment images middle next ys m v mid n u new → Goes tells takes faults moment images first next (xs ++ ys) l w old n u new
   goes_more first middle next xs ys l m n w v u old mid new p q = record {
@@ -168,3 +173,24 @@ module _ {D : Type 0} (tells takes : D → Bool) (faults moment : D → ℕ) (im
   -- there was no memory for the next line
   pub stops_unheard : (first : Next) (l others : List (List ℕ)) (a b : Notes) (w v : Whole D) (old new : Option (List ℕ)) → Goes tells takes faults moment images first (Next.Tells []) l a w old b v new → Stops tells takes faults moment images first Memory (l ++ others) a w old b v new
   stops_unheard first l others a b w v old new p = stops_later first (Next.Tells []) Memory l others a b b w v v old new new p (stops_none others [] b v new)
+
+  pub goes_flushed : (first : Next) (l : List (List ℕ)) (a b : Notes) (w v : Whole D) (old mid new : Option (List ℕ)) → Appends mid new []
+      → Goes tells takes faults moment images first (Next.Tells []) l a w old b v mid → Goes tells takes faults moment images first (Next.Tells []) l a w old b v new
+  goes_flushed first l a b w v old mid new f p =
+      subst (λ (x : List (List ℕ)). Goes tells takes faults moment images first (Next.Tells []) x a w old b v new) (append-nil l)
+      (goes_more first (Next.Tells []) (Next.Tells []) l [] a b b w v v old mid new p (goes_flush b v mid new f))
+
+  -- what was written could not be handed on before the next line
+  pub stops_unwritten : (first : Next) (l others : List (List ℕ)) (a b : Notes) (w v : Whole D) (old mid new : Option (List ℕ)) → Appends mid new []
+      → Goes tells takes faults moment images first (Next.Tells []) l a w old b v mid → Stops tells takes faults moment images first Write (l ++ others) a w old b v new
+  stops_unwritten first l others a b w v old mid new f p =
+      stops_later first (Next.Tells []) Write l others a b b w v v old mid new p (record {
+        items = [];
+        hears = until_none Write Drill others b.items b.items mid new refl f;
+        drilled = (Next.Tells [], Drilled.IsStart);
+        leads = leads_none v;
+        caused = λ e. absurd (apart e);
+      })
+    where
+      apart : Write ≡ Disk → ⊥
+      apart e = cc

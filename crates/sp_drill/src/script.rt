@@ -86,7 +86,7 @@ fn run<D: Disk, S: Source, K: Sink>(
     ensures later { K.write_faults sink.old ≤ K.write_faults sink.new }
 {
     loop {
-        match reader.next(source) {
+        match reader.next(source, sink) {
             Came::Line => {
                 if let Err(fault) = driller.hear_line(kernel, sink, reader.line()) {
                     return end_of(fault);
@@ -100,6 +100,7 @@ fn run<D: Disk, S: Source, K: Sink>(
             }
             Came::End => return End::Input,
             Came::Failed => return End::ReadFault,
+            Came::Unwritten => return End::WriteFault,
             Came::Long => return End::Long,
             Came::Memory => return End::Memory,
         }

@@ -1,5 +1,5 @@
 // The commands on the files of a journal.
-ghost use Rattle.std.specs.Prelude.{◌≡◌, ◌≢◌, ◌⊎◌, ◌≤◌, ◌++◌, List, ℕ, None, IsTrue, IfOk, IfErr, IfNone, IfSome, MatchOption};
+ghost use Rattle.std.specs.Prelude.{◌≡◌, ◌≢◌, ◌⊎◌, ◌≤◌, ◌++◌, List, ℕ, None, IsTrue, IfOk, IfErr, IfNone, IfSome, MatchOption, false};
 ghost use Rattle.sp_disk.specs.Faults.{Rose};
 ghost use Rattle.sp_journal.specs.Looking.{OnlyReads};
 ghost use Rattle.sp_report.specs.Report.{check_text, compact_text, dump_text};
@@ -40,6 +40,8 @@ pub fn dump<H: Shelf, K: Sink>(
     ensures reports { IsTrue (H.tells shelf.old) → Reports dump_text result.end (H.holds shelf.old name.now) (H.holds shelf.old (alt_name name.now)) (K.taken sink.old) (K.taken sink.new) }
     // At a fault its line alone is written.
     ensures closes { Closes result.end (K.taken sink.old) (K.taken sink.new) (K.write_faults sink.old) (K.write_faults sink.new) }
+    // Where all was written, nothing is held back.
+    ensures handed { result.end ≡ FileEnd.Written → K.holds_back sink.new ≡ false }
     // The disks that the shelf handed out were only read.
     ensures main_looks { IsTrue (H.tells shelf.old) → IfSome result.disks (λ p. (was : H.Disk) × (H.Disk.reads was ≡ H.holds shelf.old name.now) × OnlyReads (H.Disk.moment was) (H.Disk.moment p.main) (H.Disk.reads was) (H.Disk.reads p.main) (H.Disk.images was) (H.Disk.images p.main)) }
     ensures alt_looks { IsTrue (H.tells shelf.old) → IfSome result.disks (λ p. (was : H.Disk) × (H.Disk.reads was ≡ H.holds shelf.old (alt_name name.now)) × OnlyReads (H.Disk.moment was) (H.Disk.moment p.alt) (H.Disk.reads was) (H.Disk.reads p.alt) (H.Disk.images was) (H.Disk.images p.alt)) }
@@ -74,6 +76,7 @@ pub fn check<H: Shelf, K: Sink>(
 ) -> Finished<H::Disk>
     ensures reports { IsTrue (H.tells shelf.old) → Reports check_text result.end (H.holds shelf.old name.now) (H.holds shelf.old (alt_name name.now)) (K.taken sink.old) (K.taken sink.new) }
     ensures closes { Closes result.end (K.taken sink.old) (K.taken sink.new) (K.write_faults sink.old) (K.write_faults sink.new) }
+    ensures handed { result.end ≡ FileEnd.Written → K.holds_back sink.new ≡ false }
     ensures main_looks { IsTrue (H.tells shelf.old) → IfSome result.disks (λ p. (was : H.Disk) × (H.Disk.reads was ≡ H.holds shelf.old name.now) × OnlyReads (H.Disk.moment was) (H.Disk.moment p.main) (H.Disk.reads was) (H.Disk.reads p.main) (H.Disk.images was) (H.Disk.images p.main)) }
     ensures alt_looks { IsTrue (H.tells shelf.old) → IfSome result.disks (λ p. (was : H.Disk) × (H.Disk.reads was ≡ H.holds shelf.old (alt_name name.now)) × OnlyReads (H.Disk.moment was) (H.Disk.moment p.alt) (H.Disk.reads was) (H.Disk.reads p.alt) (H.Disk.images was) (H.Disk.images p.alt)) }
     ensures asked { MatchOption result.disks (AsksFirst (H.asked shelf.old) (H.asked shelf.new) (names_of name.now)) (λ p. H.asked shelf.new ≡ H.asked shelf.old ++ names_of name.now) }
@@ -105,6 +108,7 @@ pub fn compact<H: Shelf, K: Sink>(
 ) -> Finished<H::Disk>
     ensures compacts { IsTrue (H.tells shelf.old) → IfSome result.disks (λ p. Compacts result.end (H.holds shelf.old name.now) (H.holds shelf.old (alt_name name.now)) (H.Disk.reads p.main) (H.Disk.reads p.alt) (K.taken sink.old) (K.taken sink.new)) }
     ensures closes { Closes result.end (K.taken sink.old) (K.taken sink.new) (K.write_faults sink.old) (K.write_faults sink.new) }
+    ensures handed { result.end ≡ FileEnd.Written → K.holds_back sink.new ≡ false }
     // Whatever a stop leaves of the disks that the shelf handed out, since their first syncs, holds the same records.
     ensures crash { IsTrue (H.tells shelf.old) → IfSome result.disks (λ p. (main alt : H.Disk) × (H.Disk.reads main ≡ H.holds shelf.old name.now) × (H.Disk.reads alt ≡ H.holds shelf.old (alt_name name.now)) × Survives (H.Disk.moment main) (H.Disk.moment p.main) (H.Disk.moment alt) (H.Disk.moment p.alt) (H.Disk.reads main) (H.Disk.reads alt) (H.Disk.reads p.main) (H.Disk.reads p.alt) (H.Disk.images main) (H.Disk.images p.main) (H.Disk.images alt) (H.Disk.images p.alt)) }
     ensures asked { MatchOption result.disks (AsksFirst (H.asked shelf.old) (H.asked shelf.new) (names_of name.now)) (λ p. H.asked shelf.new ≡ H.asked shelf.old ++ names_of name.now) }

@@ -1,5 +1,5 @@
 // How a command on the files of a journal ends.
-ghost use Rattle.std.specs.Prelude.{◌≡◌, ◌≤◌, ◌++◌, OnOk, OnErr, codes, decimal};
+ghost use Rattle.std.specs.Prelude.{◌≡◌, ◌≤◌, ◌++◌, OnOk, OnErr, codes, decimal, false};
 ghost use Rattle.std.specs.Io.KnownBytes.{Appends};
 ghost use Rattle.sp_io.specs.Faults.{Rose};
 ghost use Rattle.sp_io.specs.Streams.{AppendsFront};
@@ -63,6 +63,7 @@ pub(crate) fn end_of(error: JournalError) -> FileEnd
 // Writes the answer: the text, or the last line of the fault.
 pub(crate) fn tell<K: Sink>(sink: &mut K, answer: Result<Text, JournalError>) -> FileEnd
     ensures told { Tells answer result (K.taken sink.old) (K.taken sink.new) (K.write_faults sink.old) (K.write_faults sink.new) }
+    ensures handed { result ≡ FileEnd.Written → K.holds_back sink.new ≡ false }
     ensures later { K.write_faults sink.old ≤ K.write_faults sink.new }
 {
     match answer {

@@ -9,7 +9,7 @@ mod words;
 
 pub use memory::{MemSink, MemSource};
 pub use standard::{StdSink, StdSource};
-pub use stream::{Got, Sink, Source, Took, WriteFailed, write_all};
+pub use stream::{Got, Sink, Source, Took, WriteFailed, put_all, write_all};
 pub use words::Words;
 
 #[cfg(test)]

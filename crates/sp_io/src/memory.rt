@@ -1,7 +1,7 @@
 // A source and a sink in memory, with a list of calls that are to fail.
 ghost use Rattle.std.specs.Prelude.{◌≡◌, [], ◌≤◌, Some, IfOk, length, take};
 
-use crate::{Got, Sink, Source, Took};
+use crate::{Got, Sink, Source, Took, WriteFailed};
 use std::alloc::{AllocError, Global};
 
 /// A source in memory: it gives its pieces one after the other, at most one piece a read, and then the
@@ -132,11 +132,13 @@ impl MemSink {
 
 impl Sink for MemSink {
     ghost use Rattle.sp_io.specs.Memory.{bytes_taken, write_fault_count};
-    ghost use Rattle.std.specs.Prelude.{Some};
+    ghost use Rattle.std.specs.Prelude.{Some, false};
 
     ghost taken = { λ s. Some (bytes_taken s) };
 
     ghost write_faults = { write_fault_count };
+
+    ghost holds_back = { λ s. false };
 
     fn write(&mut self, bytes: &[u8]) -> Took {
         self.calls = self.calls.saturating_add(1);
@@ -145,5 +147,10 @@ impl Sink for MemSink {
             return Took::Failed;
         }
         Took::Bytes(bytes.len())
+    }
+
+    // It holds nothing back.
+    fn flush(&mut self) -> Result<(), WriteFailed> {
+        Ok(())
     }
 }

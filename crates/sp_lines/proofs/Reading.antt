@@ -61,10 +61,10 @@ module _ (Went : Bool → List (List ℕ) → Type 0) (start left : Option (List
 
 -- A run that a fault stopped, while one of these lines was answered or behind them.
 module _ (Stopped : Fault → List (List ℕ) → Type 0) (start left : Option (List ℕ)) (lines : List (List ℕ)) where
-  -- there was no memory for a line
-  pub memory_run : StopsWithin (λ fault l. (others : List (List ℕ)) × (l ≡ lines ++ others)) Memory start left
-      → ((others : List (List ℕ)) → Stopped Memory (lines ++ others)) → StopsWithin Stopped Memory start left
-  memory_run h s = record { bytes = h.bytes; read = h.read; stopped = subst (Stopped Memory) (sym h.stopped.1) (s h.stopped.0) }
+  -- there was no memory for a line, or what was written could not be handed on before the next
+  pub unheard_run : (fault : Fault) → StopsWithin (λ fault l. (others : List (List ℕ)) × (l ≡ lines ++ others)) fault start left
+      → ((others : List (List ℕ)) → Stopped fault (lines ++ others)) → StopsWithin Stopped fault start left
+  unheard_run fault h s = record { bytes = h.bytes; read = h.read; stopped = subst (Stopped fault) (sym h.stopped.1) (s h.stopped.0) }
 
   module _ (Went : Bool → List (List ℕ) → Type 0) (fault : Fault) (end : End) (told : end ≡ end_of fault) where
     -- the source has ended

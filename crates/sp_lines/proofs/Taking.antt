@@ -6,7 +6,7 @@ use Rattle.sp_io.proofs.Known.{Consumes-none, Consumes-more, Consumes-kept}
 use Rattle.sp_text.specs.Lines.{is_blank}
 use Rattle.sp_lines.specs.declared.reader.Next.{Next}
 use Rattle.sp_lines.specs.declared.reader.Next.TheVariants.{Last, End}
-use Rattle.sp_lines.specs.declared.fault.Fault.TheVariants.{Memory}
+use Rattle.sp_lines.specs.declared.fault.Fault.{Fault}
 use Rattle.sp_lines.specs.Cutting.{cut_after, cut_whole, answered}
 use Rattle.sp_lines.specs.Hearing.{GoesThrough, GoesSoFar, StopsWithin}
 use Rattle.sp_lines.specs.Pending.{Pending}
@@ -131,9 +131,9 @@ module _ (start left : Option (List ℕ)) where
             ∙ append_assoc lines more end,
       )
 
-  pub comes_memory : (p : Pending) (rest : List ℕ) (lines : List (List ℕ)) → HasTaken start left p rest lines
-      → StopsWithin (λ fault l. (others : List (List ℕ)) × (l ≡ lines ++ others)) Memory start left
-  comes_memory p rest lines h = record { bytes = h.cut ++ p.bytes; read = h.read; stopped = further p rest lines h }
+  pub comes_fault : (fault : Fault) (p : Pending) (rest : List ℕ) (lines : List (List ℕ)) → HasTaken start left p rest lines
+      → StopsWithin (λ fault l. (others : List (List ℕ)) × (l ≡ lines ++ others)) fault start left
+  comes_fault fault p rest lines h = record { bytes = h.cut ++ p.bytes; read = h.read; stopped = further p rest lines h }
 
 -- before the first line
 pub taken_none : (start : Option (List ℕ)) (p : Pending) → p.bytes ≡ [] → p.room ≡ 2 ^ 32 → HasTaken start start p [] []

@@ -2,11 +2,11 @@
 use Rattle.std.specs.Prelude.{◌≡◌, ◌<◌, ◌+◌, ◌^◌, ℕ, Bool, true, false, List, [], ◌∷◌, ◌++◌, length, Option, if◌then◌else◌}
 use Rattle.std.specs.Str.Lines.{strip_carriage_return}
 use Rattle.std.specs.Io.KnownBytes.{Keeps, Consumes, IsAtEnd}
-use Rattle.sp_lines.specs.declared.fault.Fault.TheVariants.{Memory as WantsMemory}
+use Rattle.sp_lines.specs.declared.fault.Fault.TheVariants.{Memory as WantsMemory, Write as CannotWrite}
 use Rattle.sp_lines.specs.declared.chunk.Filled.{Filled}
 use Rattle.sp_lines.specs.declared.chunk.Filled.TheVariants.{Bytes, End as AtEnd, Failed as ReadFailed, Full}
 use Rattle.sp_lines.specs.declared.reader.Next.{Next}
-use Rattle.sp_lines.specs.declared.reader.Next.TheVariants.{Line, Last, End, Failed, Long, Memory}
+use Rattle.sp_lines.specs.declared.reader.Next.TheVariants.{Line, Last, End, Failed, Unwritten, Long, Memory}
 use Rattle.sp_lines.specs.Cutting.{cut_after, answered}
 use Rattle.sp_lines.specs.Hearing.{GoesThrough, GoesSoFar, StopsWithin}
 use Rattle.sp_lines.specs.Pending.{Pending}
@@ -55,4 +55,5 @@ ComesTo Last start left pending line lines = GoesThrough (λ ended l. l ≡ line
 ComesTo End start left pending line lines = GoesThrough (λ ended l. l ≡ lines) start left
 ComesTo Failed start left pending line lines = (g : GoesSoFar (λ ended l. l ≡ lines) start left) × (length g.bytes < 2 ^ 32)
 ComesTo Long start left pending line lines = (g : GoesSoFar (λ ended l. l ≡ lines) start left) × (length g.bytes ≡ 2 ^ 32)
+ComesTo Unwritten start left pending line lines = StopsWithin (λ fault l. (others : List (List ℕ)) × (l ≡ lines ++ others)) CannotWrite start left
 ComesTo Memory start left pending line lines = StopsWithin (λ fault l. (others : List (List ℕ)) × (l ≡ lines ++ others)) WantsMemory start left

@@ -1,5 +1,6 @@
 // A reader that takes the lines of a source one by one.
-ghost use Rattle.std.specs.Prelude.{◌≡◌, ◌≤◌, ◌<◌, ◌+◌, ◌^◌, ℕ, List, [], ◌∷◌, ◌++◌, Option, true, false, IfOk, length, if◌then◌else◌};
+ghost use Rattle.std.specs.Prelude.{◌≡◌, ◌≢◌, ◌⊎◌, ◌≤◌, ◌<◌, ◌+◌, ◌^◌, ℕ, List, [], ◌∷◌, ◌++◌, Option, true, false, IfOk, length, if◌then◌else◌};
+ghost use Rattle.std.specs.Io.KnownBytes.{Appends};
 ghost use Rattle.std.specs.Str.Lines.{strip_carriage_return};
 ghost use Rattle.sp_io.specs.Faults.{Rose};
 ghost use Rattle.sp_text.specs.Lines.{is_blank};
@@ -7,7 +8,7 @@ ghost use Rattle.sp_lines.specs.Cutting.{kept_more, cut_after, answered};
 ghost use Rattle.sp_lines.specs.Taking.{line_of, CutsTo, HasTaken, IsTaken, ComesTo};
 
 use crate::chunk::{Chunk, Filled};
-use sp_io::Source;
+use sp_io::{Sink, Source};
 use sp_rect::Text;
 use std::alloc::{AllocError, Global};
 
@@ -25,6 +26,8 @@ pub enum Next {
     End,
     /// The source failed.
     Failed,
+    /// The sink failed, as it was flushed before the source was asked.
+    Unwritten,
     /// As much was read as is read at most, and the source has not ended.
     Long,
     /// There was no memory.
@@ -64,17 +67,23 @@ impl LineReader {
         }
     }
 
-    /// Takes the next line that is not blank, and asks the source only where no further line has ended.
-    /// `Failed` comes only where the count of the source rose, and `Long` only where `MAX_INPUT` bytes were
-    /// read. What is said of the lines holds where each call before answered `Line`. Costs the bytes that
-    /// are cut, and takes memory for the line.
-    pub fn next<S: Source>(&mut self, source: &mut S) -> Next
+    /// Takes the next line that is not blank, and asks the source only where no further line has ended. Before it
+    /// does, it flushes the sink: whoever waits for an answer before the next line has it.
+    /// `Failed` comes only where the count of the source rose, `Unwritten` only where that of the sink rose, and
+    /// `Long` only where `MAX_INPUT` bytes were read. What is said of the lines holds where each call before
+    /// answered `Line`. Costs the bytes that are cut, and takes memory for the line.
+    pub fn next<S: Source, K: Sink>(&mut self, source: &mut S, sink: &mut K) -> Next
         ensures comes { (start : Option (List ℕ)) (lines : List (List ℕ)) → HasTaken start (S.left source.old) self.old.chunk [] lines
             → ComesTo result start (S.left source.new) self.new.chunk (line_of self.new.ended self.new.line) lines }
         ensures spoken { IsTaken result → is_blank (line_of self.new.ended self.new.line) ≡ false }
         ensures fewer { result ≡ Next.Line → self.new.chunk.room + length self.new.chunk.bytes < self.old.chunk.room + length self.old.chunk.bytes }
         ensures failed { result ≡ Next.Failed → Rose (S.read_faults source.old) (S.read_faults source.new) }
         ensures later { S.read_faults source.old ≤ S.read_faults source.new }
+        ensures taken { Appends (K.taken sink.old) (K.taken sink.new) [] }
+        ensures unwritten { result ≡ Next.Unwritten → Rose (K.write_faults sink.old) (K.write_faults sink.new) }
+        ensures counts { K.write_faults sink.old ≤ K.write_faults sink.new }
+        // Where it has asked the source, nothing is held back.
+        ensures asked { result ≢ Next.Unwritten → (source.new ≡ source.old) ⊎ (K.holds_back sink.new ≡ false) }
     {
         self.ended = false;
         self.line.clear();
@@ -83,6 +92,9 @@ impl LineReader {
                 Ok(true) => return Next::Line,
                 Ok(false) => {}
                 Err(_) => return Next::Memory,
+            }
+            if sink.flush().is_err() {
+                return Next::Unwritten;
             }
             match self.chunk.fill(source) {
                 Filled::Bytes => {}

@@ -6,14 +6,14 @@ ghost use Rattle.sp_text.specs.Texts.{item_text};
 ghost use Rattle.sp_lines.specs.Keeping.{KeptAt};
 
 use crate::Fault;
-use sp_io::{Sink, write_all};
+use sp_io::{Sink, put_all};
 use sp_rect::Text;
 use sp_text::{Form, Item, Items, push_item};
 use std::alloc::Global;
 use std::marker::Model;
 
 /// Keeps items, and writes the text of each in one form. It has room for one text, which it takes anew for
-/// each.
+/// each. The sink may hold the texts back.
 #[derive(Drop)]
 pub struct Scribe {
     form: Form,
@@ -81,7 +81,7 @@ impl Scribe {
         if self.items.push(item).is_err() {
             return Err(Fault::Memory);
         }
-        match write_all(sink, self.text.bytes()) {
+        match put_all(sink, self.text.bytes()) {
             Ok(()) => Ok(()),
             Err(_) => Err(Fault::Write),
         }

@@ -1,5 +1,5 @@
 // The audit's line behind the answers.
-ghost use Rattle.std.specs.Prelude.{◌≡◌, ◌⊎◌, ◌≤◌};
+ghost use Rattle.std.specs.Prelude.{◌≡◌, ◌⊎◌, ◌≤◌, [], false};
 ghost use Rattle.std.specs.Io.KnownBytes.{Appends};
 ghost use Rattle.sp_io.specs.Faults.{Rose};
 ghost use Rattle.sp_io.specs.Streams.{AppendsFront};
@@ -12,7 +12,8 @@ use sp_io::{Sink, write_all};
 use sp_text::End;
 use std::alloc::Global;
 
-// Writes the audit's line where it is asked for and the input has ended, and says how the run ends now.
+// Writes the audit's line where it is asked for and the input has ended, hands on what the sink holds back, and
+// says how the run ends now.
 pub(crate) fn tell_audit<K: Sink>(
     alloc: Global,
     audited: bool,
@@ -26,6 +27,7 @@ pub(crate) fn tell_audit<K: Sink>(
     ensures failed { end ≡ End.Input → result ≡ End.WriteFault → Rose (K.write_faults sink.old) (K.write_faults sink.new) }
     ensures none { end ≡ End.Input → result ≡ End.Memory → K.taken sink.new ≡ K.taken sink.old }
     ensures other { (end ≡ End.Input → ⊥) → sink.new ≡ sink.old }
+    ensures handed { result ≡ End.Input → K.holds_back sink.new ≡ false }
     ensures later { K.write_faults sink.old ≤ K.write_faults sink.new }
 {
     match end {
@@ -33,10 +35,25 @@ pub(crate) fn tell_audit<K: Sink>(
             if audited {
                 write_audit(alloc, audit, sink)
             } else {
-                End::Input
+                hand_on(sink)
             }
         }
         end => end,
+    }
+}
+
+// Hands on what the sink holds back.
+fn hand_on<K: Sink>(sink: &mut K) -> End
+    ensures ends { (result ≡ End.Input) ⊎ (result ≡ End.WriteFault) }
+    ensures kept { result ≡ End.Input → Appends (K.taken sink.old) (K.taken sink.new) [] }
+    ensures front { result ≡ End.WriteFault → AppendsFront (K.taken sink.old) (K.taken sink.new) [] }
+    ensures handed { result ≡ End.Input → K.holds_back sink.new ≡ false }
+    ensures failed { result ≡ End.WriteFault → Rose (K.write_faults sink.old) (K.write_faults sink.new) }
+    ensures later { K.write_faults sink.old ≤ K.write_faults sink.new }
+{
+    match write_all(sink, b"") {
+        Ok(()) => End::Input,
+        Err(_) => End::WriteFault,
     }
 }
 
@@ -44,6 +61,7 @@ pub(crate) fn tell_audit<K: Sink>(
 fn write_audit<K: Sink>(alloc: Global, audit: &Audit, sink: &mut K) -> End
     ensures ends { (result ≡ End.Input) ⊎ ((result ≡ End.WriteFault) ⊎ (result ≡ End.Memory)) }
     ensures whole { result ≡ End.Input → Appends (K.taken sink.old) (K.taken sink.new) (audit_text audit.now) }
+    ensures handed { result ≡ End.Input → K.holds_back sink.new ≡ false }
     ensures front { result ≡ End.WriteFault → AppendsFront (K.taken sink.old) (K.taken sink.new) (audit_text audit.now) }
     ensures failed { result ≡ End.WriteFault → Rose (K.write_faults sink.old) (K.write_faults sink.new) }
     ensures none { result ≡ End.Memory → K.taken sink.new ≡ K.taken sink.old }

@@ -13,7 +13,7 @@ use sp_text::End;
 /// Where that write fails too, the first fault stays the run's. Takes no memory.
 pub fn write_last<K: Sink>(sink: &mut K, end: End)
     ensures written { WritesOrFails (K.taken sink.old) (K.taken sink.new) (K.write_faults sink.old) (K.write_faults sink.new) (last_line end) }
-    ensures none { last_line end ≡ [] → K.taken sink.new ≡ K.taken sink.old }
+    ensures none { last_line end ≡ [] → sink.new ≡ sink.old }
     ensures later { K.write_faults sink.old ≤ K.write_faults sink.new }
 {
     let _ = match end {

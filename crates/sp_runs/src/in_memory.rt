@@ -1,5 +1,5 @@
 // A run over a kernel in memory.
-ghost use Rattle.std.specs.Prelude.{◌≡◌, ◌≢◌, [], None, IfOk};
+ghost use Rattle.std.specs.Prelude.{◌≡◌, ◌≢◌, [], None, IfOk, false};
 ghost use Rattle.sp_io.specs.Faults.{Rose};
 ghost use Rattle.sp_rect.specs.Serial.{Serial};
 ghost use Rattle.sp_node.specs.Table.{IsShape};
@@ -49,6 +49,8 @@ pub fn run_in_memory<S: Source, K: Sink>(
     ensures written { Writes result.transcript.end (K.taken sink.old) (K.taken sink.new) (K.write_faults sink.old) (K.write_faults sink.new) (render (form_of language) result.transcript.items) (audit_line audited result.audit) }
     ensures read_fault { result.transcript.end ≡ End.ReadFault → Rose (S.read_faults source.old) (S.read_faults source.new) }
     ensures write_fault { result.transcript.end ≡ End.WriteFault → Rose (K.write_faults sink.old) (K.write_faults sink.new) }
+    // At the end of the input nothing that was written is held back.
+    ensures handed { result.transcript.end ≡ End.Input → K.holds_back sink.new ≡ false }
     ensures ends { EndsRun result.transcript.end }
     ensures no_disk { result.transcript.end ≢ End.DiskFault }
 {

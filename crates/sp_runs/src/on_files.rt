@@ -1,5 +1,5 @@
 // A run over the two files of a journal.
-ghost use Rattle.std.specs.Prelude.{◌≡◌, ◌≢◌, ◌⊎◌, ◌++◌, [], ℕ, List, None, IsTrue, IfNone, IfSome, MatchOption};
+ghost use Rattle.std.specs.Prelude.{◌≡◌, ◌≢◌, ◌⊎◌, ◌++◌, [], ℕ, List, None, IsTrue, IfNone, IfSome, MatchOption, false};
 ghost use Rattle.sp_io.specs.Faults.{Rose};
 ghost use Rattle.sp_disk.specs.Faults.{Rose as DiskRose};
 ghost use Rattle.sp_rect.specs.Serial.{Serial};
@@ -76,6 +76,8 @@ pub fn run_on_files<H: Shelf, S: Source, K: Sink>(
     ensures read_fault { result.transcript.end ≡ End.ReadFault → Rose (S.read_faults source.old) (S.read_faults source.new) }
     ensures write_fault { result.transcript.end ≡ End.WriteFault → Rose (K.write_faults sink.old) (K.write_faults sink.new) }
     ensures disk_fault { result.transcript.end ≡ End.DiskFault → MatchOption result.disks (DiskRose (H.faults shelf.old) (H.faults shelf.new)) (λ p. DiskRose 0 (H.Disk.faults p.main) ⊎ DiskRose 0 (H.Disk.faults p.alt)) }
+    // At the end of the input nothing that was written is held back.
+    ensures handed { result.transcript.end ≡ End.Input → K.holds_back sink.new ≡ false }
     ensures no_usage { result.transcript.end ≢ End.Usage }
 {
     match fetch_pair(alloc, shelf, name) {
@@ -107,6 +109,7 @@ fn run_on_pair<D: Disk, S: Source, K: Sink>(
     ensures read_fault { result.0.transcript.end ≡ End.ReadFault → Rose (S.read_faults source.old) (S.read_faults source.new) }
     ensures write_fault { result.0.transcript.end ≡ End.WriteFault → Rose (K.write_faults sink.old) (K.write_faults sink.new) }
     ensures disk_fault { result.0.transcript.end ≡ End.DiskFault → DiskRose (D.faults pair.main) (D.faults result.1.main) ⊎ DiskRose (D.faults pair.alt) (D.faults result.1.alt) }
+    ensures handed { result.0.transcript.end ≡ End.Input → K.holds_back sink.new ≡ false }
     ensures no_usage { result.0.transcript.end ≢ End.Usage }
 {
     match open_store(alloc, pair, shape) {
@@ -132,6 +135,7 @@ fn run_store<D: Disk, S: Source, K: Sink>(
     ensures read_fault { result.0.transcript.end ≡ End.ReadFault → Rose (S.read_faults source.old) (S.read_faults source.new) }
     ensures write_fault { result.0.transcript.end ≡ End.WriteFault → Rose (K.write_faults sink.old) (K.write_faults sink.new) }
     ensures disk_fault { store.kernel.kernel.stopped ≡ None → result.0.transcript.end ≡ End.DiskFault → DiskRose (D.faults (main_of store.is_alt store.kernel.disk store.other)) (D.faults result.1.main) ⊎ DiskRose (D.faults (alt_of store.is_alt store.kernel.disk store.other)) (D.faults result.1.alt) }
+    ensures handed { result.0.transcript.end ≡ End.Input → K.holds_back sink.new ≡ false }
     ensures ends { EndsRun result.0.transcript.end }
 {
     let mut store = store;

@@ -1,10 +1,10 @@
 // A run over a kernel that is there.
-ghost use Rattle.std.specs.Prelude.{◌≡◌, ◌≤◌, [], None, IsTrue};
+ghost use Rattle.std.specs.Prelude.{◌≡◌, ◌≤◌, [], None, IsTrue, false};
 ghost use Rattle.sp_io.specs.Faults.{Rose};
 ghost use Rattle.sp_disk.specs.Faults.{Rose as DiskRose};
 ghost use Rattle.sp_disk.specs.Moments.{LeavesOnly};
 ghost use Rattle.sp_journal.specs.Kinds.{KeepsOneOf};
-ghost use Rattle.sp_text.specs.declared.types.End.TheVariants.{ReadFault, WriteFault, DiskFault};
+ghost use Rattle.sp_text.specs.declared.types.End.TheVariants.{ReadFault, WriteFault, DiskFault, Input};
 ghost use Rattle.sp_text.specs.Texts.{render};
 ghost use Rattle.sp_lines.specs.Hearing.{EndsRun};
 ghost use Rattle.sp_lines.specs.Reading.{ReadsTo};
@@ -49,6 +49,8 @@ pub fn run<D: Disk, S: Source, K: Sink>(
     ensures disk_fault { kernel.old.kernel.stopped ≡ None → result.end ≡ DiskFault → DiskRose (D.faults kernel.old.disk) (D.faults kernel.new.disk) }
     ensures disk_later { D.faults kernel.old.disk ≤ D.faults kernel.new.disk }
     ensures tells { D.tells kernel.new.disk ≡ D.tells kernel.old.disk }
+    // At the end of the input nothing that was written is held back.
+    ensures handed { result.end ≡ Input → K.holds_back sink.new ≡ false }
     ensures ends { EndsRun result.end }
 {
     let Transcript { items, end } = listen(alloc, language, kernel, source, sink);

@@ -1,5 +1,5 @@
 // A generated script is played, and summed up.
-ghost use Rattle.std.specs.Prelude.{◌≡◌, ◌<◌, ◌≤◌, ◌^◌, [], length};
+ghost use Rattle.std.specs.Prelude.{◌≡◌, ◌<◌, ◌≤◌, ◌^◌, [], length, false};
 ghost use Rattle.sp_io.specs.Faults.{Rose};
 ghost use Rattle.sp_rect.specs.Serial.{Serial};
 ghost use Rattle.sp_node.specs.Table.{IsShape};
@@ -44,6 +44,8 @@ pub fn stress<K: Sink>(alloc: Global, seed: u64, count: u64, shape: Shape, sink:
     ensures told { IsTold result.transcript.end result.transcript.items result.audit }
     ensures serial { Serial result.audit.base result.audit.commits }
     ensures written { WritesSummary result.transcript.end (K.taken sink.old) (K.taken sink.new) (K.write_faults sink.old) (K.write_faults sink.new) (summary_text (summary_of result.transcript.items result.audit)) }
+    // Where all was written, nothing is held back.
+    ensures handed { result.transcript.end ≡ End.Input → K.holds_back sink.new ≡ false }
     ensures write_fault { result.transcript.end ≡ End.WriteFault → Rose (K.write_faults sink.old) (K.write_faults sink.new) }
     ensures later { K.write_faults sink.old ≤ K.write_faults sink.new }
 {
@@ -113,6 +115,7 @@ fn tell<K: Sink>(alloc: Global, end: End, items: &[Item], audit: &Audit, sink: &
     ensures ends { EndsStress result }
     ensures short { IsCutShort end result }
     ensures written { WritesSummary result (K.taken sink.old) (K.taken sink.new) (K.write_faults sink.old) (K.write_faults sink.new) (summary_text (summary_of items.now audit.now)) }
+    ensures handed { result ≡ End.Input → K.holds_back sink.new ≡ false }
     ensures write_fault { result ≡ End.WriteFault → Rose (K.write_faults sink.old) (K.write_faults sink.new) }
     ensures later { K.write_faults sink.old ≤ K.write_faults sink.new }
 {
@@ -130,6 +133,7 @@ fn tell_summary<K: Sink>(alloc: Global, items: &[Item], audit: &Audit, sink: &mu
     requires { audit.now.base ≡ [] }
     ensures ends { EndsStress result }
     ensures written { WritesSummary result (K.taken sink.old) (K.taken sink.new) (K.write_faults sink.old) (K.write_faults sink.new) (summary_text (summary_of items.now audit.now)) }
+    ensures handed { result ≡ End.Input → K.holds_back sink.new ≡ false }
     ensures write_fault { result ≡ End.WriteFault → Rose (K.write_faults sink.old) (K.write_faults sink.new) }
     ensures later { K.write_faults sink.old ≤ K.write_faults sink.new }
 {

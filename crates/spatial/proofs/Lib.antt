@@ -2,3 +2,4 @@ mod Asked
 mod Silence
 mod Completeness
 mod Conduct
+mod Statuses

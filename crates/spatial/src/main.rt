@@ -12,7 +12,7 @@ use sp_io::{Sink, StdSink, StdSource, Words};
 use sp_runs::write_last;
 use sp_text::End;
 use std::env;
-use std::io::ErrorKind;
+use std::io::{BufWriter, ErrorKind};
 use std::process::ExitCode;
 
 // The status where there is no memory for the words.
@@ -25,9 +25,12 @@ fn lack_memory<K: Sink>(sink: &mut K) -> ExitCode {
 }
 
 // The words after the program's name go to `offline`, and its status is the program's. Words that are no
-// text are no command, so none are handed on.
+// text are no command, so none are handed on. Answers are held back up to the next read.
 fn main(rt: HostRuntime) -> ExitCode {
-    let mut sink = StdSink::new(rt.stdout());
+    let Ok(writer) = BufWriter::new(rt.alloc(), rt.stdout()) else {
+        return lack_memory(&mut StdSink::new(rt.stdout()));
+    };
+    let mut sink = StdSink::new(writer);
     let mut words = Words::new(rt.alloc());
     match env::args(&rt) {
         Ok(args) => {

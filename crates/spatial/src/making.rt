@@ -1,5 +1,5 @@
 // Generated scripts are written.
-ghost use Rattle.std.specs.Prelude.{◌<◌};
+ghost use Rattle.std.specs.Prelude.{◌≡◌, ◌<◌, false};
 ghost use Rattle.spatial.specs.Commands.{status_of, Makes};
 
 use sp_io::{Sink, write_all};
@@ -11,6 +11,7 @@ use std::alloc::Global;
 // Writes the script of this seed, with that many rounds, and says how that ended.
 pub(crate) fn make<K: Sink>(alloc: Global, sink: &mut K, seed: u64, count: u64) -> End
     requires { seed < 2147483647 }
+    ensures handed { result ≡ End.Input → K.holds_back sink.new ≡ false }
     ensures written { Makes (status_of result) seed count (K.taken sink.old) (K.taken sink.new) (K.write_faults sink.old) (K.write_faults sink.new) }
 {
     let Ok(text) = script(alloc, seed, count) else {

@@ -1,5 +1,5 @@
 // The top call: all that the program does.
-ghost use Rattle.std.specs.Prelude.{◌≡◌, ◌≢◌, ◌⊎◌, ◌↔◌, ◌++◌, ℕ, List, None, Some, IsTrue, IfNone, IfSome, MatchOption, codes};
+ghost use Rattle.std.specs.Prelude.{◌≡◌, ◌≢◌, ◌⊎◌, ◌↔◌, ◌++◌, ℕ, List, None, Some, IsTrue, IfNone, IfSome, MatchOption, codes, false};
 ghost use Rattle.sp_io.specs.Faults.{Rose};
 ghost use Rattle.sp_rect.specs.Serial.{Serial};
 ghost use Rattle.sp_rect.specs.declared.record.Record.{Record as AnyRecord};
@@ -120,6 +120,8 @@ pub fn offline<S: Source, K: Sink, H: Shelf>(
     ensures asked { (name : List ℕ) → NamesJournal words.now name → MatchOption result.disks (AsksFirst (H.asked shelf.old) (H.asked shelf.new) (names_of name)) (λ p. H.asked shelf.new ≡ H.asked shelf.old ++ names_of name) }
     ensures unfetched { (name : List ℕ) → NamesJournal words.now name → IfNone result.disks ((result.status ≡ 4) ⊎ (result.status ≡ 6)) }
     ensures unasked { ((name : List ℕ) → NamesJournal words.now name → ⊥) → (shelf.new ≡ shelf.old) × (result.disks ≡ None) }
+    // At status 0 nothing that was written is held back.
+    ensures handed { result.status ≡ 0 → K.holds_back sink.new ≡ false }
     ensures read_fault { result.status ≡ 2 → Rose (S.read_faults source.old) (S.read_faults source.new) }
     ensures write_fault { result.status ≡ 3 → Rose (K.write_faults sink.old) (K.write_faults sink.new) }
     ensures disk_fault { result.status ≡ 4 → MatchOption result.disks (Rose (H.faults shelf.old) (H.faults shelf.new)) (λ p. Rose 0 (H.Disk.faults p.main) ⊎ Rose 0 (H.Disk.faults p.alt)) }
@@ -177,6 +179,7 @@ fn perform<S: Source, K: Sink, H: Shelf>(
     ensures asked { (name : List ℕ) → IsOnFiles name task.now → MatchOption result.disks (AsksFirst (H.asked shelf.old) (H.asked shelf.new) (names_of name)) (λ p. H.asked shelf.new ≡ H.asked shelf.old ++ names_of name) }
     ensures unfetched { (name : List ℕ) → IsOnFiles name task.now → IfNone result.disks ((result.status ≡ 4) ⊎ (result.status ≡ 6)) }
     ensures unasked { ((name : List ℕ) → IsOnFiles name task.now → ⊥) → (shelf.new ≡ shelf.old) × (result.disks ≡ None) }
+    ensures handed { result.status ≡ 0 → K.holds_back sink.new ≡ false }
     ensures read_fault { result.status ≡ 2 → Rose (S.read_faults source.old) (S.read_faults source.new) }
     ensures write_fault { result.status ≡ 3 → Rose (K.write_faults sink.old) (K.write_faults sink.new) }
     ensures disk_fault { result.status ≡ 4 → MatchOption result.disks (Rose (H.faults shelf.old) (H.faults shelf.new)) (λ p. Rose 0 (H.Disk.faults p.main) ⊎ Rose 0 (H.Disk.faults p.alt)) }
@@ -214,6 +217,7 @@ fn run_script<S: Source, K: Sink, H: Shelf>(
     ensures asked { (name : List ℕ) → run.now.journal ≡ Some name → MatchOption result.disks (AsksFirst (H.asked shelf.old) (H.asked shelf.new) (names_of name)) (λ p. H.asked shelf.new ≡ H.asked shelf.old ++ names_of name) }
     ensures unfetched { (name : List ℕ) → run.now.journal ≡ Some name → IfNone result.disks ((result.status ≡ 4) ⊎ (result.status ≡ 6)) }
     ensures unasked { run.now.journal ≡ None → (shelf.new ≡ shelf.old) × (result.disks ≡ None) }
+    ensures handed { result.status ≡ 0 → K.holds_back sink.new ≡ false }
     ensures read_fault { result.status ≡ 2 → Rose (S.read_faults source.old) (S.read_faults source.new) }
     ensures write_fault { result.status ≡ 3 → Rose (K.write_faults sink.old) (K.write_faults sink.new) }
     ensures disk_fault { result.status ≡ 4 → MatchOption result.disks (Rose (H.faults shelf.old) (H.faults shelf.new)) (λ p. Rose 0 (H.Disk.faults p.main) ⊎ Rose 0 (H.Disk.faults p.alt)) }
