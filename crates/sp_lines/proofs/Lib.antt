@@ -1,5 +1,6 @@
 pub mod Results
 pub mod CutLines
+mod Fronts
 pub mod Whole
 pub mod Hearing
 pub mod Taking

@@ -29,14 +29,14 @@ cuts_rest found old new rest after e h = subst (λ x. CutsTo x old new rest afte
 pub line_by_newline : (ended : Bool) (line : List ℕ) → ended ≡ false → line_of ended line ≡ strip_carriage_return line
 line_by_newline ended line e = ap (λ b. cond b line (strip_carriage_return line)) e
 
--- one byte more
-pub cuts_more : (old mid new rest front after : List ℕ) (b : ℕ) (lines more : List (List ℕ)) → CutsOff old mid rest lines front → mid ≡ b ∷ new
-    → answered (cut_after front (b ∷ [])).lines ≡ more → (cut_after front (b ∷ [])).rest ≡ after → CutsOff old new rest (lines ++ more) after
-cuts_more old mid new rest front after b lines more p e f g = record {
-  bytes = p.bytes ++ b ∷ [];
-  parts = p.parts ∙ ap (λ x. p.bytes ++ x) e ∙ sym (append_assoc p.bytes (b ∷ []) new);
-  ended = answered_pieces rest p.bytes (b ∷ []) front p.left ∙ ap (λ x. x ++ answered (cut_after front (b ∷ [])).lines) p.ended ∙ ap (λ x. lines ++ x) f;
-  left = sym g ∙ ap (λ r. (cut_after r (b ∷ [])).rest) p.left ∙ sym (cut_pieces_rest rest p.bytes (b ∷ []));
+-- some bytes more
+pub cuts_more : (old mid new rest front after : List ℕ) (lines more : List (List ℕ)) → CutsOff old mid rest lines front → CutsOff mid new front more after
+    → CutsOff old new rest (lines ++ more) after
+cuts_more old mid new rest front after lines more p q = record {
+  bytes = p.bytes ++ q.bytes;
+  parts = p.parts ∙ ap (λ x. p.bytes ++ x) q.parts ∙ sym (append_assoc p.bytes q.bytes new);
+  ended = answered_pieces rest p.bytes q.bytes front p.left ∙ ap (λ x. x ++ answered (cut_after front q.bytes).lines) p.ended ∙ ap (λ x. lines ++ x) q.ended;
+  left = q.left ∙ ap (λ r. (cut_after r q.bytes).rest) p.left ∙ sym (cut_pieces_rest rest p.bytes q.bytes);
 }
 
 module _ (start left : Option (List ℕ)) where

@@ -1,5 +1,5 @@
 -- Bytes that are cut into lines as they come.
-use Rattle.std.specs.Prelude.{ℕ, not, ◌==◌, List, [], ◌∷◌, ◌++◌, filter, fold, nat_lt, length, if◌then◌else◌}
+use Rattle.std.specs.Prelude.{◌≡◌, ◌≢◌, ℕ, not, ◌==◌, List, [], ◌∷◌, ◌++◌, All, filter, fold, nat_lt, length, slice_index_or, if◌then◌else◌}
 use Rattle.std.specs.Str.Lines.{strip_carriage_return}
 use Rattle.sp_text.specs.Lines.{is_blank}
 
@@ -29,3 +29,10 @@ cut_whole bytes = (cut_after [] bytes).lines ++ (cut_after [] bytes).rest ∷ []
 -- the lines that have an answer
 abbrev pub answered : List (List ℕ) → List (List ℕ)
 answered lines = filter (λ line. not (is_blank line)) lines
+
+-- these first bytes have no LF, and the byte behind them, if there is one, is an LF
+pub record IsBeforeNewline (front bytes : List ℕ) : Type 0 where
+  pub behind : List ℕ
+  pub parts : bytes ≡ front ++ behind
+  pub plain : All (λ (b : ℕ). b ≢ 10) front
+  pub stops : slice_index_or behind 0 10 ≡ 10

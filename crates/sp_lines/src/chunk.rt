@@ -1,8 +1,10 @@
 // The bytes of one read.
-ghost use Rattle.std.specs.Prelude.{◌≡◌, ◌≤◌, ◌<◌, ◌∷◌, [], ◌^◌, IfSome, None};
+ghost use Rattle.std.specs.Prelude.{◌≡◌, ◌≤◌, ◌<◌, ◌∷◌, [], ◌^◌, IfSome, None, length, drop};
+ghost use Rattle.sp_lines.specs.Cutting.{IsBeforeNewline};
 ghost use Rattle.sp_io.specs.Faults.{Rose};
 ghost use Rattle.sp_lines.specs.Taking.{FillsTo};
 
+use memchr::memchr;
 use sp_io::{Got, Source};
 use std::marker::Model;
 
@@ -72,6 +74,22 @@ impl Chunk {
         Some(byte)
     }
 
+    /// The bytes before the first LF, or all where none is pending.
+    pub fn front(&self) -> &[u8]
+        ensures { IsBeforeNewline result.now self.now.bytes }
+    {
+        before_newline(&self.buf[self.from..self.to])
+    }
+
+    /// Passes over so many first bytes.
+    pub fn pass(&mut self, count: usize)
+        requires { count ≤ length self.old.bytes }
+        ensures bytes { self.new.bytes ≡ drop count self.old.bytes }
+        ensures room { self.new.room ≡ self.old.room }
+    {
+        self.from += count;
+    }
+
     /// Reads the next bytes, where none are left.
     pub fn fill<S: Source>(&mut self, source: &mut S) -> Filled
         requires { self.old.bytes ≡ [] }
@@ -94,5 +112,15 @@ impl Chunk {
                 Filled::Bytes
             }
         }
+    }
+}
+
+// The bytes before the first LF, or all where there is none.
+fn before_newline(bytes: &[u8]) -> &[u8]
+    ensures { IsBeforeNewline result.now bytes.now }
+{
+    match memchr(b'\n', bytes) {
+        Some(at) => &bytes[..at],
+        None => bytes,
     }
 }

@@ -1,11 +1,11 @@
 // A reader that takes the lines of a source one by one.
-ghost use Rattle.std.specs.Prelude.{◌≡◌, ◌≢◌, ◌⊎◌, ◌≤◌, ◌<◌, ◌+◌, ◌^◌, ℕ, List, [], ◌∷◌, ◌++◌, Option, true, false, IfOk, length, if◌then◌else◌};
+ghost use Rattle.std.specs.Prelude.{◌≡◌, ◌≢◌, ◌⊎◌, ◌≤◌, ◌<◌, ◌+◌, ◌^◌, ℕ, List, [], ◌∷◌, ◌++◌, Option, true, false, IfOk, fold, length, slice_index_or, if◌then◌else◌};
 ghost use Rattle.std.specs.Io.KnownBytes.{Appends};
 ghost use Rattle.std.specs.Str.Lines.{strip_carriage_return};
 ghost use Rattle.sp_io.specs.Faults.{Rose};
 ghost use Rattle.sp_text.specs.Lines.{is_blank};
 ghost use Rattle.sp_lines.specs.Cutting.{kept_more, cut_after, answered};
-ghost use Rattle.sp_lines.specs.Taking.{line_of, CutsTo, HasTaken, IsTaken, ComesTo};
+ghost use Rattle.sp_lines.specs.Taking.{line_of, CutsOff, CutsTo, HasTaken, IsTaken, ComesTo};
 
 use crate::chunk::{Chunk, Filled};
 use sp_io::{Sink, Source};
@@ -128,42 +128,52 @@ impl LineReader {
         ensures room { self.new.chunk.room ≡ self.old.chunk.room }
         ensures ended { self.new.ended ≡ self.old.ended }
     {
-        while let Some(byte) = self.chunk.next_byte() {
-            if cut_byte(&mut self.line, byte)? {
-                return Ok(true);
+        loop {
+            self.keep_front()?;
+            match self.chunk.next_byte() {
+                Some(_) if end_line(&mut self.line) => return Ok(true),
+                Some(_) => {}
+                None => return Ok(false),
             }
         }
-        Ok(false)
+    }
+
+    // Cuts the bytes before the next LF.
+    fn keep_front(&mut self) -> Result<(), AllocError>
+        ensures cut { IfOk result (λ _. CutsOff self.old.chunk.bytes self.new.chunk.bytes self.old.line [] self.new.line) }
+        ensures stops { IfOk result (λ _. slice_index_or self.new.chunk.bytes 0 10 ≡ 10) }
+        ensures fewer { length self.new.chunk.bytes ≤ length self.old.chunk.bytes }
+        ensures room { self.new.chunk.room ≡ self.old.chunk.room }
+        ensures ended { self.new.ended ≡ self.old.ended }
+    {
+        let front = self.chunk.front();
+        keep_bytes(&mut self.line, front)?;
+        let count = front.len();
+        self.chunk.pass(count);
+        Ok(())
     }
 }
 
-// Adds a byte to what is kept of a line. It tells whether a line that is not blank has ended, which is
-// then the line; where a blank one has ended, it is empty.
+// Ends a line at its LF, and tells whether it is not blank; a blank one is emptied.
 #[tactic(auto, unfolding(crate::specs::Cutting::cut_more))]
-fn cut_byte(line: &mut Text, byte: u8) -> Result<bool, AllocError>
-    ensures lines { IfOk result (λ found. answered (cut_after line.old (byte ∷ [])).lines ≡ (if found then strip_carriage_return line.new ∷ [] else [])) }
-    ensures spoken { IfOk result (λ found. found ≡ true → is_blank (strip_carriage_return line.new) ≡ false) }
-    ensures rest { IfOk result (λ found. (cut_after line.old (byte ∷ [])).rest ≡ (if found then [] else line.new)) }
+fn end_line(line: &mut Text) -> bool
+    ensures lines { answered (cut_after line.old (10 ∷ [])).lines ≡ (if result then strip_carriage_return line.new ∷ [] else []) }
+    ensures spoken { result ≡ true → is_blank (strip_carriage_return line.new) ≡ false }
+    ensures rest { (cut_after line.old (10 ∷ [])).rest ≡ (if result then [] else line.new) }
 {
-    if byte != b'\n' {
-        keep_byte(line, byte)?;
-        return Ok(false);
-    }
     if is_blank(without_return(line.bytes())) {
         line.clear();
-        return Ok(false);
+        return false;
     }
-    Ok(true)
+    true
 }
 
-// Adds a byte to what is kept of a line.
-#[tactic(auto, unfolding(crate::specs::Cutting::kept_more))]
-fn keep_byte(line: &mut Text, byte: u8) -> Result<(), AllocError>
-    ensures kept { IfOk result (λ _. line.new ≡ kept_more line.old byte) }
+// Adds bytes to what is kept of a line.
+fn keep_bytes(line: &mut Text, bytes: &[u8]) -> Result<(), AllocError>
+    ensures { IfOk result (λ _. line.new ≡ fold kept_more line.old bytes.now) }
 {
-    if line.bytes().len() < KEPT {
-        line.push_byte(byte)?;
-    }
+    let room = KEPT.saturating_sub(line.bytes().len());
+    line.push_bytes(&bytes[..room.min(bytes.len())])?;
     Ok(())
 }
 

@@ -1,19 +1,29 @@
-use Rattle.std.proofs.Common.{[], ◌∷◌, ◌∙◌, ap, cond}
+use Rattle.std.proofs.Common.{◌∷◌, [], cond, ◌∙◌, sym, ap, subst, List, ℕ}
 use Rattle.std.specs.Str.Lines.{strip_carriage_return}
+use Rattle.sp_lines.specs.Taking.{CutsOff}
 use Rattle.sp_lines.proofs.Taking.{cuts_more}
+use Rattle.sp_lines.proofs.Fronts.{cuts_turn}
 use Rattle.sp_lines.proofs.reader.LineReader.cut.Goals as goal
 
-pub returns-then-branch-clause-cut : goal.returns-then-branch-clause-cut
-returns-then-branch-clause-cut c =
-    cuts_more _ _ _ _ _ _ c.in-Some.byte _ _ c.loop-byte.invariant.cut c.in-Some.ensures.some
-    (c.in_ok-cut_byte.ensures.lines ∙ ap (λ b. cond b (strip_carriage_return c.cut_byte.new.line ∷ []) []) c.if-branch.true)
-    (c.in_ok-cut_byte.ensures.rest ∙ ap (λ b. cond b [] c.cut_byte.new.line) c.if-branch.true)
+pub returns-in-Some-clause-cut : goal.returns-in-Some-clause-cut
+returns-in-Some-clause-cut c =
+    cuts_turn _ _ _ _ _ _ _ _ _ _ c.loop-self.invariant.cut c.in_ok-keep_front.ensures.cut c.in_ok-keep_front.ensures.stops c.in-Some.ensures.some
+    (c.end_line.ensures.lines ∙ ap (λ t. cond t (strip_carriage_return c.end_line.new.line ∷ []) []) c.if-end_line.true)
+    (c.end_line.ensures.rest ∙ ap (λ t. cond t [] c.end_line.new.line) c.if-end_line.true)
 
-pub loop-byte-preserved : goal.loop-byte-preserved
-loop-byte-preserved c = record {
-  cut = cuts_more _ _ _ _ _ _ c.in-Some.byte _ _ c.loop-byte.invariant.cut c.in-Some.ensures.some
-      (c.in_ok-cut_byte.ensures.lines ∙ ap (λ b. cond b (strip_carriage_return c.cut_byte.new.line ∷ []) []) c.if-branch.false)
-      (c.in_ok-cut_byte.ensures.rest ∙ ap (λ b. cond b [] c.cut_byte.new.line) c.if-branch.false);
-  room = c.next_byte.ensures.room ∙ c.loop-byte.invariant.room;
-  ended = c.loop-byte.invariant.ended;
+pub loop-self-preserved : goal.loop-self-preserved
+loop-self-preserved c = record {
+  cut = cuts_turn _ _ _ _ _ _ _ _ _ _ c.loop-self.invariant.cut c.in_ok-keep_front.ensures.cut c.in_ok-keep_front.ensures.stops c.in-Some.ensures.some
+      (c.end_line.ensures.lines ∙ ap (λ t. cond t (strip_carriage_return c.end_line.new.line ∷ []) []) c.if-end_line.false)
+      (c.end_line.ensures.rest ∙ ap (λ t. cond t [] c.end_line.new.line) c.if-end_line.false);
+  room = c.next_byte.ensures.room ∙ c.keep_front.ensures.room ∙ c.loop-self.invariant.room;
+  ended = c.keep_front.ensures.ended ∙ c.loop-self.invariant.ended;
 }
+
+pub returns-in-None-clause-cut : goal.returns-in-None-clause-cut
+returns-in-None-clause-cut c =
+    let none = c.next_byte.ensures.none c.in-None.is in (
+      subst (λ (x : List ℕ). CutsOff c.args.self.now.chunk.bytes x c.args.self.now.line [] c.keep_front.new.self.line) (none.0 ∙ sym none.1)
+          (cuts_more _ _ _ _ _ _ _ _ c.loop-self.invariant.cut c.in_ok-keep_front.ensures.cut),
+      none.1,
+    )
